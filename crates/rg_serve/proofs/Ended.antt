@@ -3,6 +3,7 @@ use Rattle.std.proofs.Common.{◌≡◌, ℕ, ◌<◌, ◌^◌, List, [], ◌∷
 use Rattle.std.proofs.lemmas.List.{append-nil}
 use Rattle.rg_event.specs.declared.event.Event.{Event}
 use Rattle.rg_event.specs.Rising.{next_offset}
+use Rattle.rg_host.specs.Moments.{LeavesFiles}
 use Rattle.rg_config.specs.Plans.{Planned}
 use Rattle.rg_pipe.specs.Handing.{Given}
 use Rattle.rg_run_spec.specs.Output.{end_lines, open_line}
@@ -55,12 +56,13 @@ module _ {K : Type 0} (view : View K) (plan : Planned) (e : Errand) (offset : �
         (subst (λ (l : List Reply). IsWithin view plan e l t (left ++ framed (text_of end))) whole
         (told_within view plan e replies end t left w marks ([], append-nil (replies ++ end ∷ []) ∙ whole) (subst (λ (r : Reply). length (text_of r) < 2 ^ 32) lines_are fits) (end_are_lines e.offset (events_all e.terms.basis e.held e.given))))
 
-    pub served : (last : K) → Keeps view t last → IsWithin view plan e (replies_of e) last [] → HasServed view plan e last
-    served last keeps put =
+    pub served : (last : K) → Keeps view t last → LeavesFiles view.now view.may view.clock view.since t last → IsWithin view plan e (replies_of e) last [] → HasServed view plan e last
+    served last keeps files put =
         let stored : (view.at last).stored ≡ (course_of e).accepted = ap (λ (x : State). x.stored) keeps.at_stays ∙ done.all_stored ∙ events_are in
         record {
           told = told_whole view plan e (replies_of e) last put;
           truthful = put.at_rest.truthful;
           grown = put.at_rest.grown;
           has = λ v left. subst (λ (l : List Event). (view.store plan).HasEvents l v) stored (put.at_rest.has v left);
+          saved = λ v left. (done.slot, subst (λ (n : ℕ). (view.store plan).HasSaved done.slot n v) (ap (λ (l : List Event). length l) events_are) (done.has v (files.may_stays.no_more v left)));
         }

@@ -51,6 +51,7 @@ module _ {K : Type 0} (view : View K) (plan : Planned) (e : Errand) where
         of_replies = w.split.of_replies;
         told = told_whole view plan e replies t w;
         kept = λ v left. subst (λ (l : List Reply). IsKeptInStore (view.store plan) (course_of e) (lines_in l) v) w.split.whole (h.kept v left w.rest ([], append-nil w.rest));
+        grown = h.grown;
       }
 
   -- what was gathered is put
@@ -243,6 +244,13 @@ module _ {K : Type 0} (view : View K) (plan : Planned) (e : Errand) where
       coming = u.coming;
       awaiting = flushed (given_all p.expected u.coming.ahead) old new gathered u.awaiting (subst (λ (l : List ℕ). IsWithin view plan e (replies_done u.awaiting.done) new l) none w) same;
     }
+
+    -- what was gathered may be put
+    pub under_eased : (p : PipeState) (held : List ℕ) (old new : K) (gathered gathered_then : List ℕ) (u : IsUnderWay view plan e requests rest left p held old gathered) → IsWithin view plan e (replies_done u.awaiting.done) new gathered_then → (view.at new).events ≡ (view.at old).events
+        → IsUnderWay view plan e requests rest left p held new gathered_then
+    under_eased p held old new gathered gathered_then u w same =
+        let a = u.awaiting in
+        record { coming = u.coming; awaiting = record { terms = a.terms; done = a.done; given = a.given; events = same ∙ a.events; within = w } }
 
 module _ {K : Type 0} (view : View K) (plan : Planned) (p p_then : PipeState) (f f_then : Intaking) (old new : K) (gathered gathered_then : List ℕ) where
   pub at_step : (x step : Step) → x ≡ step → Steps view plan p p_then f f_then gathered gathered_then (Ok x) old new → Steps view plan p p_then f f_then gathered gathered_then (Ok step) old new

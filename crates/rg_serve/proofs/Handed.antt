@@ -1,22 +1,24 @@
 -- What a pipe hands out can be answered.
-use Rattle.std.proofs.Common.{◌≡◌, ℕ, ◌≤◌, List, Option, Some, None, Result, Ok, Err, sym, ◌∙◌, ap, subst, arith}
+use Rattle.std.proofs.Common.{◌≡◌, ℕ, ◌≤◌, List, drop, Option, Some, None, Result, Ok, Err, sym, ◌∙◌, ap, subst, arith}
 use Rattle.std.specs.Prelude.{IfOk}
 use Rattle.rg_config.specs.Plans.{Planned}
 use Rattle.rg_pipe.specs.State.{PipeState}
-use Rattle.rg_pipe.specs.Handing.{Hands, Next, given_of}
+use Rattle.rg_pipe.specs.Handing.{Hands, Feeds, FeedsAndHands, Next, given_of}
 use Rattle.rg_pipe.specs.declared.request.Request.{Request}
 use Rattle.rg_pipe.specs.declared.request.Request.TheVariants as request
+use Rattle.rg_pipe.specs.declared.request.Whole.{Whole}
 use Rattle.rg_pipe.specs.declared.fault.PipeFault.{PipeFault}
 use Rattle.rg_pipe.specs.declared.fault.PipeFault.TheVariants as pipe
 use Rattle.rg_pipe.proofs.Laws.{next_line}
 use Rattle.rg_task.specs.View.{View}
 use Rattle.rg_run.specs.declared.fault.TurnFault.{TurnFault}
 use Rattle.rg_serve.specs.Calls.{IsFit, IsDue, Answers}
-use Rattle.rg_serve.specs.UnderWay.{IsFitAsked, AnswersAsked, Handled, StepsBy}
+use Rattle.rg_serve.specs.Intaking.{Intaking}
+use Rattle.rg_serve.specs.UnderWay.{IsFitAsked, AnswersAsked, Handled, StepsBy, Steps}
 use Rattle.rg_serve.specs.declared.step.Step.{Step}
 use Rattle.rg_serve.specs.declared.step.Step.TheVariants.{Answered, Lacks, Refused}
 
-fit : (fed p : PipeState) (r : Request) → Hands fed p (given_of r) → IsFit r
+pub fit : (fed p : PipeState) (r : Request) → Hands fed p (given_of r) → IsFit r
 fit fed p (request.Line offset text) hands = let line = next_line fed p offset text.now hands in (line.small, line.no_lf)
 fit fed p (request.Again offset) hands = tt
 fit fed p (request.Gap offset expected) hands = tt
@@ -55,3 +57,12 @@ module _ {K : Type 0} (view : View K) (plan : Planned) (gathered gathered_then :
       → (IsDue r (view.at old).next → Answers view plan (given_of r) gathered gathered_then result old new) → AnswersAsked view plan asked gathered gathered_then result old new
   asked_some asked found r result is some step answers =
       subst (λ (x : Result (Option Request) PipeFault). AnswersAsked view plan x gathered gathered_then result old new) (sym (is ∙ ap (λ (x : Option Request). Ok x) some)) (step, answers)
+
+-- a request that was whole at the front of what is held was answered or not
+pub steps_here : {K : Type 0} (view : View K) (plan : Planned) (p p_then : PipeState) (f f_then : Intaking) (piece gathered gathered_then : List ℕ) (old new : K) (whole : Whole) (result : Result Step TurnFault) → piece ≡ f.held → FeedsAndHands p p_then piece whole.size (given_of whole.request)
+    → f_then ≡ record f { held = drop whole.size f.held } → AnswersAsked view plan (Ok (Some whole.request)) gathered gathered_then result old new → Steps view plan p p_then f f_then gathered gathered_then result old new
+steps_here view plan p p_then f f_then piece gathered gathered_then old new whole result same h passed answers = record {
+  fed = h.fed;
+  feeds = record { count = whole.size; feeds = subst (λ (l : List ℕ). Feeds p h.fed l whole.size) same h.feeds; passed = passed };
+  step = steps_by view plan h.fed p_then gathered gathered_then old new (Ok (Some whole.request)) result h.hands answers;
+}

@@ -1,3 +1,4 @@
+pub mod Carrying
 pub mod Within
 pub mod Listing
 pub mod Replied

@@ -68,6 +68,7 @@ module _ {K : Type 0} (view : View K) (plan : Planned) (e : Errand) where
         subst (λ (l : List (List ℕ)). IsNear (course_of e) l (view.at t).stored) (sym (lines-append w.first some)) (near_more (course_of e) (lines_in w.first) (lines_in some) (view.at t).stored w.near) in
         rest_kept Image (view.store plan) (course_of e) (lines_in front) (view.at t).stored (view.at t).keep (view.may t) v
         (rest_front (view.store plan) (course_of e) (lines_in front) (lines_in replies) (view.at t).stored (view.at t).keep (view.may t) lines near w.at_rest) left;
+    grown = w.at_rest.grown;
   }
 
   module _ (old new : K) (gathered : List ℕ) (h : IsHeld view plan e old gathered) where
@@ -92,6 +93,7 @@ module _ {K : Type 0} (view : View K) (plan : Planned) (e : Errand) where
                 ∙ sym (frames-append h.replies more.0) ∙ ap frames_of more.1,
           );
           kept = subst (λ (l : List (List ℕ)). IsKeptInStore (view.store plan) (course_of e) l m.image) (sym reads.lines) (h.kept m.image left reads.some reads.begins);
+          grown = inl (h.grown m.image left);
         }
 
     -- no call, or one that leaves all as it was
@@ -108,6 +110,7 @@ module _ {K : Type 0} (view : View K) (plan : Planned) (e : Errand) where
       split = h.split;
       told = leaves.said_stays ∙ h.told;
       kept = λ v left some begins. h.kept v (leaves.may_stays.no_more v left) some begins;
+      grown = λ v left. h.grown v (leaves.may_stays.no_more v left);
     }
 
     module _ (files : LeavesFiles view.now view.may view.clock view.since old new) where
@@ -131,6 +134,7 @@ module _ {K : Type 0} (view : View K) (plan : Planned) (e : Errand) where
             of_replies = h.split.of_replies;
             told = told_all all;
             kept = λ v left. subst (λ (l : List Reply). IsKeptInStore (view.store plan) (course_of e) (lines_in l) v) h.split.whole (h.kept v (files.may_stays.no_more v left) h.rest ([], append-nil h.rest));
+            grown = λ v left. h.grown v (files.may_stays.no_more v left);
           }
 
   -- all that is gathered is put
@@ -174,6 +178,9 @@ module _ {K : Type 0} (view : View K) (plan : Planned) (e : Errand) where
         let near : IsNear (course_of e) (lines_in replies) ((view.at old).stored ++ (view.at old).chunk) = subst (λ (l : List Event). IsNear (course_of e) (lines_in replies) l) (sym (view.whole old)) w.near_events in
         mid_step_kept Image (view.store plan) (course_of e) (lines_in replies) (view.at old).stored (view.at old).chunk (view.at old).keep (view.may old) v w.at_rest begins near mid
 
+    mid_grown : (v : Image) → IsMidStep (view.store plan) (view.at old).keep (view.at old).chunk (view.may old) v → (view.store plan).IsGrown v
+    mid_grown v mid = mid.grown (w.at_rest.grown mid.from mid.left)
+
     at_whole : (m : Moment) → IsMidStep (view.store plan) (view.at old).keep (view.at old).chunk (view.may old) m.image → m.said ≡ e.said ++ frames_of replies → StaysOnErrand (view.store plan) e [] m
     at_whole m mid is =
         let more = w.split.of_replies in
@@ -182,6 +189,7 @@ module _ {K : Type 0} (view : View K) (plan : Planned) (e : Errand) where
           since = is;
           framed = inl (frames_of more.0, sym (frames-append replies more.0) ∙ ap frames_of more.1);
           kept = subst (λ (l : List (List ℕ)). IsKeptInStore (view.store plan) (course_of e) l m.image) (sym (lines_all replies w.split.small w.split.lines)) (mid_kept m.image mid);
+          grown = inl (mid_grown m.image mid);
         }
 
     pub step_moments : Moments view.clock view.since old new (StaysOnErrand (view.store plan) e [])
@@ -192,7 +200,13 @@ module _ {K : Type 0} (view : View K) (plan : Planned) (e : Errand) where
         (λ m at. at_whole m at.0 at.1)
 
     pub step_halted : HasHalted view plan e new
-    step_halted = record { replies = replies; of_replies = w.split.of_replies; told = step.said_stays ∙ told_is; kept = λ v left. mid_kept v (step.left v left) }
+    step_halted = record {
+      replies = replies;
+      of_replies = w.split.of_replies;
+      told = step.said_stays ∙ told_is;
+      kept = λ v left. mid_kept v (step.left v left);
+      grown = λ v left. mid_grown v (step.left v left);
+    }
 
     pub step_held : IsHeld view plan e new []
     step_held = record {
@@ -202,6 +216,7 @@ module _ {K : Type 0} (view : View K) (plan : Planned) (e : Errand) where
       split = split_put e replies w.first w.rest [] w.split;
       told = step.said_stays ∙ told_is;
       kept = λ v left some begins. subst (λ (l : List Reply). IsKeptInStore (view.store plan) (course_of e) (lines_in l) v) (sym (ap (λ (l : List Reply). replies ++ l) (nothing some begins.0 begins.1) ∙ append-nil replies)) (mid_kept v (step.left v left));
+      grown = λ v left. mid_grown v (step.left v left);
     }
       where
         nothing : (front back : List Reply) → front ++ back ≡ [] → front ≡ []

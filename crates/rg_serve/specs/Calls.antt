@@ -1,5 +1,6 @@
 -- What the calls within a request do with a task.
-use Rattle.std.specs.Prelude.{◌≡◌, ◌⊎◌, ℕ, ◌<◌, ◌≤◌, ◌^◌, ◌==◌, false, ⊤, List, [], ◌∷◌, ◌++◌, length, Some, OnOk, OnErr, IfErr, Result}
+use Rattle.std.specs.Prelude.{◌≡◌, ◌⊎◌, ℕ, ◌<◌, ◌≤◌, ◌^◌, ◌==◌, true, false, ⊤, List, [], ◌∷◌, ◌++◌, length, Some, OnOk, OnErr, IfErr, IsErrOf, Result}
+use Rattle.rg_bytes.specs.Counts.{Rose}
 use Rattle.rg_host.specs.Moments.{Moments}
 use Rattle.rg_config.specs.Plans.{Planned}
 use Rattle.rg_pipe.specs.declared.request.Request.{Request}
@@ -12,6 +13,7 @@ use Rattle.rg_reply.specs.declared.reply.Reply.TheVariants.{Done}
 use Rattle.rg_run_spec.specs.declared.control.Control.{Control}
 use Rattle.rg_run_spec.specs.Verdicts.{Basis, control_at}
 use Rattle.rg_run.specs.Due.{due_for}
+use Rattle.rg_run.specs.Logs.{KeepsLog}
 use Rattle.rg_run.specs.Turning.{IsRefused, IsDueDone}
 use Rattle.rg_run.specs.declared.due.Due.TheVariants.{Nothing}
 use Rattle.rg_run.specs.declared.due.Due.{Due}
@@ -56,15 +58,25 @@ IsDue request.Commit next = ⊤
 IsDue request.Save next = ⊤
 
 module _ {K : Type 0} (view : View K) (disk_faults out_faults : K → ℕ) where
-  -- The task goes on: a node that can be carried on is carried on, edges stay at spelled spots, one that has not ended has not ended
-  -- then, and no count of failed calls falls.
-  pub record Sustains {A : Type 0} (result : Result A TurnFault) (old new : K) : Type 0 where
+  -- What a call leaves of a task in any state. Where it is answered, a task that runs still does, a node that can be carried on still can,
+  -- edges stay at spelled spots, and one that has not ended has not ended then; a legal log keeps what it has; and no count of failed calls
+  -- falls. `says` tells a fault of the task as the call does. A put that failed was counted, and so was a call on a file; a task says that
+  -- it has ended where it has; none that runs, and no node that can be carried on, is told a bad state; and damage is told where it is.
+  pub record Carries {A F : Type 0} (says : TurnFault → F) (result : Result A F) (old new : K) : Type 0 where
+    pub running : (plan : Planned) → view.runs plan old → OnOk result (view.runs plan new)
     pub node : (plan : Planned) (n : ℕ) → view.node plan n old → OnOk result (view.node plan n new)
     pub placed : (plan : Planned) → view.placed plan old → OnOk result (view.placed plan new)
     pub going : (view.at old).ended ≡ false → OnOk result ((view.at new).ended ≡ false)
     pub goes : view.goes old new
+    pub log : (plan : Planned) → KeepsLog view plan old new
     pub disk_faults_grow : disk_faults old ≤ disk_faults new
     pub out_faults_grow : out_faults old ≤ out_faults new
+    pub write : IsErrOf result (says turn.Write) → Rose (out_faults old) (out_faults new)
+    pub disk : IsErrOf result (says (turn.Task task.Disk)) → Rose (disk_faults old) (disk_faults new)
+    pub ended : IsErrOf result (says (turn.Task task.Ended)) → (view.at old).ended ≡ true
+    pub bad : (plan : Planned) (n : ℕ) → view.runs plan old ⊎ view.node plan n old → IsErrOf result (says (turn.Task (task.BadState n))) → ⊥
+    pub undamaged : (plan : Planned) (p : ℕ) → view.placed plan old → IsErrOf result (says (turn.Task (task.Damaged p))) → ⊥
+    pub damaged : (p : ℕ) → IsErrOf result (says (turn.Task (task.Damaged p))) → view.illegal p new
 
 module _ {K : Type 0} (view : View K) where
   -- What is gathered is put, or a put failed.

@@ -4,7 +4,7 @@ use Rattle.rg_bytes.specs.Known.{before}
 use Rattle.rg_bytes.specs.Reading.{list_bytes}
 use Rattle.rg_pipe.specs.Sent.{Sent, bytes_of}
 use Rattle.rg_pipe.specs.State.{PipeState}
-use Rattle.rg_pipe.specs.Streams.{IsStream, expected_all}
+use Rattle.rg_pipe.specs.Streams.{IsStream, expected_all, fresh}
 use Rattle.rg_pipe.specs.Handing.{Feeds}
 use Rattle.rg_pipe.specs.declared.fault.PipeFault.{PipeFault}
 use Rattle.rg_pipe.specs.declared.fault.PipeFault.TheVariants as pipe
@@ -29,6 +29,13 @@ pub record CanGoOn (f : Intaking) (p : PipeState) : Type 0 where
   pub still_open : p.refused ≡ false
   pub within : f.taken ≤ 2 ^ 50
   pub counted : p.place + length p.pending + length f.held ≡ f.taken
+
+-- Nothing is taken of an input, whose first line is to have this offset, where a line can have it.
+pub record IsFresh (next : ℕ) (f : Intaking) (p : PipeState) : Type 0 where
+  pub pipe : p ≡ fresh p.expected
+  pub expected : next ≤ 2 ^ 62 → p.expected ≡ next
+  pub held : f.held ≡ []
+  pub taken : f.taken ≡ 0
 
 -- A pipe was fed the first bytes that were held, and these are passed.
 pub record FeedsHeld (old fed : PipeState) (f f_then : Intaking) : Type 0 where

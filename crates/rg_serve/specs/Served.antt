@@ -1,13 +1,15 @@
 -- How the requests of an input were answered.
-use Rattle.std.specs.Prelude.{◌≡◌, ◌^◌, ℕ, List, [], Option, Some, Result, Ok, Err, OnOk, IfErr, IsErrOf, ⊤}
+use Rattle.std.specs.Prelude.{◌≡◌, ◌⊎◌, ◌≤◌, ◌^◌, ℕ, List, [], Option, Some, Result, Ok, Err, OnOk, IfErr, IsErrOf, ⊤}
 use Rattle.rg_bytes.specs.Counts.{Rose}
 use Rattle.rg_bytes.specs.Known.{IsAtEnd}
+use Rattle.rg_event.specs.Rising.{next_offset}
 use Rattle.rg_host.specs.Moments.{Moments}
 use Rattle.rg_config.specs.Plans.{Planned}
 use Rattle.rg_pipe.specs.Sent.{Sent}
 use Rattle.rg_pipe.specs.Streams.{IsStream}
 use Rattle.rg_task.specs.View.{View}
 use Rattle.rg_task.specs.declared.fault.TaskFault.TheVariants as task
+use Rattle.rg_run.specs.Logs.{KeepsLog}
 use Rattle.rg_run.specs.Reading.{IsLonger, IsWithinLimit}
 use Rattle.rg_run.specs.declared.fault.TurnFault.TheVariants as turn
 use Rattle.rg_serve_spec.specs.Errands.{Errand, StaysOnErrand}
@@ -27,6 +29,8 @@ module _ {K : Type 0} (view : View K) where
   pub record IsToServe (plan : Planned) (e : Errand) (requests : List Sent) (rest : List ℕ) (left : Option (List ℕ)) (from : ℕ) (t : K) : Type 0 where
     pub opens : IsToOpen view plan e from t
     pub asked : IsAskedFor e requests
+    -- which each log's events meet: none has an offset of 2^62
+    pub small : next_offset e.held ≤ 2 ^ 62
     pub input : List ℕ
     pub comes : left ≡ Some input
     pub stream : IsStream requests rest input
@@ -42,7 +46,7 @@ module _ {K : Type 0} (view : View K) where
 module _ {K I : Type 0} (view : View K) (disk_faults out_faults : K → ℕ) (left : I → Option (List ℕ)) (faults : I → ℕ) where
   -- Over any opened store each refusal has its cause, and at the end the whole input was read: it is whole requests, and a Frame comes
   -- just where it is not.
-  pub record Explains {A : Type 0} (result : Result A ServeFault) (input input_then : I) (old new : K) : Type 0 where
+  pub record Explains {A : Type 0} (plan : Planned) (result : Result A ServeFault) (input input_then : I) (old new : K) : Type 0 where
     pub frame : (requests : List Sent) (rest bytes : List ℕ) → left input ≡ Some bytes → IsStream requests rest bytes → ComesOut requests rest result
     pub at_end : OnOk result (IsAtEnd (left input_then))
     pub within : OnOk result (IsWithinLimit (2 ^ 50) (left input))
@@ -51,3 +55,29 @@ module _ {K I : Type 0} (view : View K) (disk_faults out_faults : K → ℕ) (le
     pub write : IsErrOf result (Turn turn.Write) → Rose (out_faults old) (out_faults new)
     pub disk : IsErrOf result (Turn (turn.Task task.Disk)) → Rose (disk_faults old) (disk_faults new)
     pub ended : IsErrOf result (Turn (turn.Task task.Ended)) → ⊥
+    pub bad : (n : ℕ) → view.runs plan old ⊎ view.node plan n old → IsErrOf result (Turn (turn.Task (task.BadState n))) → ⊥
+    pub undamaged : (p : ℕ) → view.placed plan old → IsErrOf result (Turn (turn.Task (task.Damaged p))) → ⊥
+    pub damaged : (p : ℕ) → IsErrOf result (Turn (turn.Task (task.Damaged p))) → view.illegal p new
+
+  -- The task is still one of the same store, and no count of failed calls fell.
+  pub record CountsGrow (input input_then : I) (old new : K) : Type 0 where
+    pub goes : view.goes old new
+    pub later : faults input ≤ faults input_then
+    pub disk_faults_grow : disk_faults old ≤ disk_faults new
+    pub out_faults_grow : out_faults old ≤ out_faults new
+
+  -- a count of failed calls rose, of the input, of the files or of the output
+  abbrev pub Failed : I → I → K → K → Type 0
+  Failed input input_then old new = Rose (faults input) (faults input_then) ⊎ (Rose (disk_faults old) (disk_faults new) ⊎ Rose (out_faults old) (out_faults new))
+
+  -- What a serve promises that goes on from a checkpoint of so many events.
+  pub record Serves {A : Type 0} (plan : Planned) (from : ℕ) (result : Result A ServeFault) (input input_then : I) (old new : K) : Type 0 where
+    -- at each moment it is on its errand; at its end all was answered, stored and put; and where it stopped, no reply was lost
+    pub told : (e : Errand) (requests : List Sent) (rest : List ℕ) → IsToServe view plan e requests rest (left input) from old → ServesTrue view plan e requests rest (left input_then) result old new
+    -- where no call failed, an input of whole requests that isn't too long is answered to its end, or memory ran out
+    pub completes : (e : Errand) (requests : List Sent) → IsToServe view plan e requests [] (left input) from old → IsWithinLimit (2 ^ 50) (left input) → (Failed input input_then old new → ⊥) → IfErr result (λ fault. fault ≡ Turn (turn.Task task.Memory))
+    -- each refusal has its cause
+    pub cause : Explains plan result input input_then old new
+    -- over a legal log, whatever the slots hold, its payments stay at each moment
+    pub log_stays : KeepsLog view plan old new
+    pub counts : CountsGrow input input_then old new

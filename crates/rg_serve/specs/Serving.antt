@@ -1,5 +1,5 @@
 -- A serve between two requests, within one, and stopped.
-use Rattle.std.specs.Prelude.{◌≡◌, ℕ, List, [], ◌∷◌, ◌++◌, Some}
+use Rattle.std.specs.Prelude.{◌≡◌, ℕ, List, [], ◌∷◌, ◌++◌, length, Some}
 use Rattle.rg_host.specs.Image.{Image}
 use Rattle.rg_config.specs.Plans.{Planned}
 use Rattle.rg_pipe.specs.Handing.{Given}
@@ -31,6 +31,7 @@ module _ {K : Type 0} (view : View K) where
     pub split : IsSplit e replies first rest gathered
     pub told : view.said t ≡ Some (e.said ++ frames_of first)
     pub kept : (v : Image) → view.may t v → (some : List Reply) → IsPrefixOf some rest → IsKeptInStore (view.store plan) (course_of e) (lines_in (first ++ some)) v
+    pub grown : (v : Image) → view.may t v → (view.store plan).IsGrown v
 
   -- Within a request: these replies are put or gathered; the stored events came with at most one request more than was put, and all events
   -- with at most one more than was answered.
@@ -59,13 +60,15 @@ module _ {K : Type 0} (view : View K) where
     pub of_replies : IsPrefixOf replies (replies_of e)
     pub told : view.said t ≡ Some (e.said ++ frames_of replies)
     pub kept : (v : Image) → view.may t v → IsKeptInStore (view.store plan) (course_of e) (lines_in replies) v
+    pub grown : (v : Image) → view.may t v → (view.store plan).IsGrown v
 
-  -- All replies were put, and each image that might be left has all accepted events under the plan's schema.
+  -- All replies were put, and each image that might be left has all accepted events under the plan's schema, and a checkpoint of them.
   pub record HasServed (plan : Planned) (e : Errand) (t : K) : Type 0 where
     pub told : view.said t ≡ Some (e.said ++ frames_of (replies_of e))
     pub truthful : (v : Image) → view.may t v → (view.store plan).IsTruthful v
     pub grown : (v : Image) → view.may t v → (view.store plan).IsGrown v
     pub has : (v : Image) → view.may t v → (view.store plan).HasEvents (course_of e).accepted v
+    pub saved : (v : Image) → view.may t v → (slot : ℕ) × (view.store plan).HasSaved slot (length (course_of e).accepted) v
 
   -- A store was opened for a serve, and nothing is put or gathered yet: the task has the store's events, all of them stored.
   pub record IsToOpen (plan : Planned) (e : Errand) (from : ℕ) (t : K) : Type 0 where

@@ -1,7 +1,6 @@
 ghost use Rattle.rg_config.specs.Plans.{Planned};
 ghost use Rattle.rg_pipe.specs.Handing.Given.{commits, saves};
-ghost use Rattle.rg_run.specs.Calls.{HasCause, FindsDamage};
-ghost use Rattle.rg_serve.specs.Calls.{Sustains, Answers};
+ghost use Rattle.rg_serve.specs.Calls.{Carries, Answers};
 
 use crate::gather::stop;
 use crate::settle::settle;
@@ -16,8 +15,7 @@ pub(crate) fn answer_commit<K: Task>(
     text: &mut Vec<u8>,
 ) -> Result<(), TurnFault>
     ensures answers { (plan : Planned) → Answers K.view plan commits gathered.old.items gathered.new.items result task.old task.new }
-    ensures sustains { Sustains K.view K.disk_faults K.out_faults result task.old task.new }
-    ensures cause { HasCause K.view K.disk_faults K.out_faults result task.old task.new }
+    ensures carries { Carries K.view K.disk_faults K.out_faults (λ fault. fault) result task.old task.new }
 {
     match settle(task, gathered, Due::Commit) {
         Ok(()) => {}
@@ -36,8 +34,7 @@ pub(crate) fn answer_save<K: Task>(
     text: &mut Vec<u8>,
 ) -> Result<(), TurnFault>
     ensures answers { (plan : Planned) → Answers K.view plan saves gathered.old.items gathered.new.items result task.old task.new }
-    ensures sustains { Sustains K.view K.disk_faults K.out_faults result task.old task.new }
-    ensures cause { HasCause K.view K.disk_faults K.out_faults result task.old task.new }
+    ensures carries { Carries K.view K.disk_faults K.out_faults (λ fault. fault) result task.old task.new }
 {
     match settle(task, gathered, Due::Save) {
         Ok(()) => {}

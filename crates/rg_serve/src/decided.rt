@@ -4,8 +4,7 @@ ghost use Rattle.rg_pipe.specs.Handing.Given.{row};
 ghost use Rattle.rg_run_spec.specs.Verdicts.{control_at};
 ghost use Rattle.rg_task.specs.Terms.{terms_of};
 ghost use Rattle.rg_run.specs.Due.{due_for};
-ghost use Rattle.rg_run.specs.Calls.{HasCause, FindsDamage};
-ghost use Rattle.rg_serve.specs.Calls.{Sustains, Answers, IsDecided};
+ghost use Rattle.rg_serve.specs.Calls.{Carries, Answers, IsDecided};
 
 use crate::gather::stop;
 use crate::load::load;
@@ -29,8 +28,7 @@ pub(crate) fn answer_decided<K: Task>(
     requires small { offset < 2 ^ 62 }
     ensures answers { (plan : Planned) (item : List ℕ) → IsDecided (terms_of plan).basis offset item reply.now due →
         Answers K.view plan (row offset item) gathered.old.items gathered.new.items result task.old task.new }
-    ensures sustains { Sustains K.view K.disk_faults K.out_faults result task.old task.new }
-    ensures cause { HasCause K.view K.disk_faults K.out_faults result task.old task.new }
+    ensures carries { Carries K.view K.disk_faults K.out_faults (λ fault. fault) result task.old task.new }
 {
     match settle(task, gathered, due) {
         Ok(()) => {}
@@ -65,8 +63,7 @@ pub(crate) fn answer_control<K: Task>(
     requires small { offset < 2 ^ 62 }
     ensures answers { (plan : Planned) (item : List ℕ) → control_at (terms_of plan).basis offset (Some item) ≡ Some control →
         Answers K.view plan (row offset item) gathered.old.items gathered.new.items result task.old task.new }
-    ensures sustains { Sustains K.view K.disk_faults K.out_faults result task.old task.new }
-    ensures cause { HasCause K.view K.disk_faults K.out_faults result task.old task.new }
+    ensures carries { Carries K.view K.disk_faults K.out_faults (λ fault. fault) result task.old task.new }
 {
     match load(task, gathered, control) {
         Ok(()) => {}

@@ -1,7 +1,6 @@
 ghost use Rattle.std.specs.Prelude.{◌≡◌, ◌⊎◌, IfErr};
 ghost use Rattle.rg_config.specs.Plans.{Planned};
-ghost use Rattle.rg_run.specs.Calls.{HasCause};
-ghost use Rattle.rg_serve.specs.Calls.{Sustains, Finishes};
+ghost use Rattle.rg_serve.specs.Calls.{Carries, Finishes};
 
 use crate::gather::{flush, stop};
 use crate::settle::settle;
@@ -18,8 +17,7 @@ pub fn finish<K: Task>(
     offset: u64,
 ) -> Result<(), TurnFault>
     ensures finishes { (plan : Planned) → Finishes K.view plan offset gathered.old.items result task.old task.new }
-    ensures sustains { Sustains K.view K.disk_faults K.out_faults result task.old task.new }
-    ensures cause { HasCause K.view K.disk_faults K.out_faults result task.old task.new }
+    ensures carries { Carries K.view K.disk_faults K.out_faults (λ fault. fault) result task.old task.new }
 {
     match settle(task, gathered, Due::Save) {
         Ok(()) => {}

@@ -1,4 +1,4 @@
-ghost use Rattle.std.specs.Prelude.{◌≡◌, ◌⊎◌, [], OnOk, IfErr, IsErrOf};
+ghost use Rattle.std.specs.Prelude.{◌≡◌, ◌⊎◌, ◌<◌, [], length, OnOk, IfErr, IsErrOf};
 ghost use Rattle.rg_bytes.specs.Counts.{Rose};
 ghost use Rattle.rg_run.specs.Calls.{PutsAll, OnlyPuts};
 ghost use Rattle.rg_run.specs.Turning.{HasWay};
@@ -51,6 +51,23 @@ pub(crate) fn make_way<K: Task>(task: &mut K, gathered: &mut Vec<u8>) -> Result<
     ensures faults { IfErr result (λ fault. fault ≡ TurnFault.Write) }
 {
     if task.has_room() {
+        return Ok(());
+    }
+    flush(task, gathered)
+}
+
+/// From how many bytes on what is gathered is put.
+const MAX_GATHERED_BYTES: usize = 65_536;
+
+/// Puts what is gathered where it has 65,536 bytes or more.
+pub(crate) fn ease<K: Task>(task: &mut K, gathered: &mut Vec<u8>) -> Result<(), TurnFault>
+    ensures flushes { Flushes K.view gathered.old.items gathered.new.items result task.old task.new }
+    ensures short { OnOk result (length gathered.new.items < 65536) }
+    ensures only { OnlyPuts K.view K.disk_faults K.out_faults task.old task.new }
+    ensures write { IsErrOf result TurnFault.Write → Rose (K.out_faults task.old) (K.out_faults task.new) }
+    ensures faults { IfErr result (λ fault. fault ≡ TurnFault.Write) }
+{
+    if gathered.len() < MAX_GATHERED_BYTES {
         return Ok(());
     }
     flush(task, gathered)

@@ -8,10 +8,10 @@ use std::alloc::Global;
 use std::marker::Model;
 
 /// How many bytes a read asks for at most.
-const SIZE: usize = 65_536;
+const MAX_READ_BYTES: usize = 65_536;
 
 /// The greatest number of bytes that is taken from an input.
-const LIMIT: u64 = 1 << 50;
+const MAX_INPUT_BYTES: u64 = 1 << 50;
 
 /// Bytes that were read of an input, of at most 2^50: those from `start` to `end` are held.
 #[derive(Drop)]
@@ -53,7 +53,7 @@ impl Intake {
         ensures held { IfOk result (λ intake. intake.held ≡ []) }
         ensures taken { IfOk result (λ intake. intake.taken ≡ 0) }
     {
-        let bytes = vec![in alloc; 0u8; SIZE]?;
+        let bytes = vec![in alloc; 0u8; MAX_READ_BYTES]?;
         Ok(Intake {
             bytes,
             start: 0,
@@ -92,10 +92,10 @@ impl Intake {
         ensures cause { IsErrOf result LineFault.Read → Rose (I.faults input.old) (I.faults input.new) }
         ensures later { I.faults input.old ≤ I.faults input.new }
     {
-        if self.taken == LIMIT {
+        if self.taken == MAX_INPUT_BYTES {
             return self.probe(input);
         }
-        let room = (LIMIT - self.taken).min(SIZE as u64) as usize;
+        let room = (MAX_INPUT_BYTES - self.taken).min(MAX_READ_BYTES as u64) as usize;
         match read_front(input, &mut self.bytes, room) {
             Err(_) => Err(LineFault::Read),
             Ok(0) => Ok(false),

@@ -3,8 +3,7 @@ ghost use Rattle.std.specs.List.{list_any};
 ghost use Rattle.rg_config.specs.Plans.{planned};
 ghost use Rattle.rg_config.specs.Read.{IsReadPlan};
 ghost use Rattle.rg_pipe.specs.Handing.Given.{row};
-ghost use Rattle.rg_run.specs.Calls.{HasCause};
-ghost use Rattle.rg_serve.specs.Calls.{Sustains, Answers};
+ghost use Rattle.rg_serve.specs.Calls.{Carries, Answers};
 
 use crate::decided::{answer_control, answer_decided};
 use crate::row::answer_row;
@@ -36,8 +35,7 @@ pub(crate) fn answer_line<K: Task>(
     requires next { (K.view.at task.old).next ≤ offset }
     requires small { offset < 2 ^ 62 }
     ensures answers { Answers K.view (planned plan.now) (row offset line.now) gathered.old.items gathered.new.items result task.old task.new }
-    ensures sustains { Sustains K.view K.disk_faults K.out_faults result task.old task.new }
-    ensures cause { HasCause K.view K.disk_faults K.out_faults result task.old task.new }
+    ensures carries { Carries K.view K.disk_faults K.out_faults (λ fault. fault) result task.old task.new }
 {
     if is_header(plan, offset) {
         return answer_decided(task, gathered, text, offset, &Reply::Head, Due::Nothing);

@@ -1,5 +1,4 @@
-ghost use Rattle.rg_run.specs.Calls.{HasCause, FindsDamage};
-ghost use Rattle.rg_serve.specs.Calls.{Sustains, Loads};
+ghost use Rattle.rg_serve.specs.Calls.{Carries, Loads};
 
 use crate::gather::stop;
 use rg_run::TurnFault;
@@ -13,9 +12,7 @@ pub(crate) fn load<K: Task>(
     control: Control,
 ) -> Result<(), TurnFault>
     ensures loads { Loads K.view gathered.old.items gathered.new.items result task.old task.new }
-    ensures sustains { Sustains K.view K.disk_faults K.out_faults result task.old task.new }
-    ensures cause { HasCause K.view K.disk_faults K.out_faults result task.old task.new }
-    ensures damage { FindsDamage K.view result task.old task.new }
+    ensures carries { Carries K.view K.disk_faults K.out_faults (λ fault. fault) result task.old task.new }
 {
     if control != Control::Ahead {
         return Ok(());

@@ -1,7 +1,6 @@
 ghost use Rattle.rg_config.specs.Plans.{planned};
 ghost use Rattle.rg_config.specs.Read.{IsReadPlan};
-ghost use Rattle.rg_run.specs.Calls.{HasCause};
-ghost use Rattle.rg_serve.specs.Calls.{Sustains};
+ghost use Rattle.rg_serve.specs.Calls.{Carries};
 ghost use Rattle.rg_serve.specs.Coming.{CanGoOn, FeedsHeld};
 ghost use Rattle.rg_serve.specs.UnderWay.{IsFitAsked, AnswersAsked, Steps};
 
@@ -33,8 +32,7 @@ fn answer_asked<K: Task>(
     requires read { IsReadPlan plan.now }
     requires fit { IsFitAsked asked }
     ensures answers { AnswersAsked K.view (planned plan.now) asked.entry gathered.old.items gathered.new.items result task.old task.new }
-    ensures sustains { Sustains K.view K.disk_faults K.out_faults result task.old task.new }
-    ensures cause { HasCause K.view K.disk_faults K.out_faults result task.old task.new }
+    ensures carries { Carries K.view K.disk_faults K.out_faults (λ fault. fault) result task.old task.new }
 {
     match asked {
         Err(PipeFault::Frame(place)) => Ok(Step::Refused(place)),
@@ -46,7 +44,8 @@ fn answer_asked<K: Task>(
     }
 }
 
-/// Feeds the pipe what is held, as far as its request lacks it, and answers that request where it is whole.
+/// Answers the request at the front of what is held where it is whole there and nothing is in hand; else feeds the pipe
+/// what its request lacks, and answers that one where it is whole.
 pub(crate) fn answer_next<K: Task>(
     intake: &mut Intake,
     pipe: &mut Pipe,
@@ -58,9 +57,19 @@ pub(crate) fn answer_next<K: Task>(
     requires read { IsReadPlan plan.now }
     requires can { CanGoOn intake.old pipe.old }
     ensures steps { Steps K.view (planned plan.now) pipe.old pipe.new intake.old intake.new gathered.old.items gathered.new.items result task.old task.new }
-    ensures sustains { Sustains K.view K.disk_faults K.out_faults result task.old task.new }
-    ensures cause { HasCause K.view K.disk_faults K.out_faults result task.old task.new }
+    ensures carries { Carries K.view K.disk_faults K.out_faults (λ fault. fault) result task.old task.new }
 {
-    feed_held(intake, pipe);
-    answer_asked(task, plan, gathered, text, pipe.next())
+    match pipe.next_in(intake.held()) {
+        Some(whole) => {
+            let size = whole.size;
+            let asked = Ok(Some(whole.request));
+            let answered = answer_asked(task, plan, gathered, text, asked);
+            intake.pass(size);
+            answered
+        }
+        None => {
+            feed_held(intake, pipe);
+            answer_asked(task, plan, gathered, text, pipe.next())
+        }
+    }
 }

@@ -1,7 +1,6 @@
 ghost use Rattle.rg_config.specs.Plans.{Planned};
 ghost use Rattle.rg_pipe.specs.Handing.Given.{again, gap};
-ghost use Rattle.rg_run.specs.Calls.{HasCause, FindsDamage};
-ghost use Rattle.rg_serve.specs.Calls.{Sustains, Answers};
+ghost use Rattle.rg_serve.specs.Calls.{Carries, Answers};
 
 use crate::gather::stop;
 use crate::tell::{tell_again, tell_gap};
@@ -16,9 +15,7 @@ pub(crate) fn answer_again<K: Task>(
     offset: u64,
 ) -> Result<(), TurnFault>
     ensures answers { (plan : Planned) → Answers K.view plan (again offset) gathered.old.items gathered.new.items result task.old task.new }
-    ensures sustains { Sustains K.view K.disk_faults K.out_faults result task.old task.new }
-    ensures cause { HasCause K.view K.disk_faults K.out_faults result task.old task.new }
-    ensures damage { FindsDamage K.view result task.old task.new }
+    ensures carries { Carries K.view K.disk_faults K.out_faults (λ fault. fault) result task.old task.new }
 {
     match tell_again(gathered, text, offset) {
         Ok(()) => Ok(()),
@@ -35,9 +32,7 @@ pub(crate) fn answer_gap<K: Task>(
     expected: u64,
 ) -> Result<(), TurnFault>
     ensures answers { (plan : Planned) → Answers K.view plan (gap offset expected) gathered.old.items gathered.new.items result task.old task.new }
-    ensures sustains { Sustains K.view K.disk_faults K.out_faults result task.old task.new }
-    ensures cause { HasCause K.view K.disk_faults K.out_faults result task.old task.new }
-    ensures damage { FindsDamage K.view result task.old task.new }
+    ensures carries { Carries K.view K.disk_faults K.out_faults (λ fault. fault) result task.old task.new }
 {
     match tell_gap(gathered, text, offset, expected) {
         Ok(()) => Ok(()),

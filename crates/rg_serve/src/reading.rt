@@ -1,4 +1,4 @@
-ghost use Rattle.std.specs.Prelude.{◌≡◌, ◌⊎◌, [], ℕ, List, Option, false, IfOk, IsErrOf};
+ghost use Rattle.std.specs.Prelude.{◌≡◌, ◌⊎◌, [], ℕ, List, Option, true, false, IfOk, IsErrOf};
 ghost use Rattle.rg_bytes.specs.Counts.{Rose};
 ghost use Rattle.rg_bytes.specs.Known.{IsAtEnd};
 ghost use Rattle.rg_config.specs.Plans.{Planned};
@@ -6,8 +6,8 @@ ghost use Rattle.rg_pipe.specs.Hand.{IsPart};
 ghost use Rattle.rg_pipe.specs.Sent.{Sent};
 ghost use Rattle.rg_run.specs.Calls.{OnlyPuts};
 ghost use Rattle.rg_serve_spec.specs.Errands.{Errand};
-ghost use Rattle.rg_serve.specs.Calls.{Sustains};
-ghost use Rattle.rg_serve.specs.Causes.{EndsFor, CountsGrow, Continues};
+ghost use Rattle.rg_serve.specs.Calls.{Carries};
+ghost use Rattle.rg_serve.specs.Causes.{ReadsFor, Continues};
 ghost use Rattle.rg_serve.specs.Coming.{IsComing, CanGoOn, ComesTo, IsTaken};
 ghost use Rattle.rg_serve.specs.UnderWay.{IsAskedFor, IsUnderWay, GoesOn, Refusing, Closes};
 
@@ -48,8 +48,7 @@ fn close<K: Task>(
     ensures never_read { IsErrOf result ServeFault.Read → ⊥ }
     ensures never_limit { IsErrOf result ServeFault.Limit → ⊥ }
     ensures comes { (first : ℕ) (requests : List Sent) (rest : List ℕ) (left : Option (List ℕ)) → IsComing first requests rest left pipe.now [] → IsAtEnd left → ComesTo requests rest ⊥ result }
-    ensures cause { EndsFor K.view K.disk_faults K.out_faults 0 0 0 result task.old task.new }
-    ensures counts { CountsGrow K.view K.disk_faults K.out_faults 0 0 task.old task.new }
+    ensures carries { Carries K.view K.disk_faults K.out_faults ServeFault.Turn result task.old task.new }
 {
     match pipe.end() {
         Err(fault) => Err(frame_fault(fault)),
@@ -77,10 +76,11 @@ pub(crate) fn read_on<I: Source, K: Task>(
         GoesOn K.view plan e requests rest (I.left input.new) pipe.now intake.new.held gathered.new.items result task.old task.new }
     ensures comes { (first : ℕ) (requests : List Sent) (rest : List ℕ) → IsComing first requests rest (I.left input.old) pipe.now [] →
         ComesTo requests rest (IsComing first requests rest (I.left input.new) pipe.now intake.new.held) result }
-    ensures on { IfOk result (Continues K.view I.left pipe.now pipe.now intake.old intake.new input.new task.old task.new) }
+    ensures on { IfOk result (Continues pipe.now pipe.now intake.old intake.new (I.left input.new)) }
+    ensures short { IfOk result (λ more. more ≡ true → gathered.new.items ≡ []) }
     ensures taken { (start : Option (List ℕ)) → IsTaken start (I.left input.old) intake.old.taken → IsTaken start (I.left input.new) intake.new.taken }
-    ensures cause { EndsFor K.view K.disk_faults K.out_faults (I.faults input.old) (I.faults input.new) intake.new.taken result task.old task.new }
-    ensures counts { CountsGrow K.view K.disk_faults K.out_faults (I.faults input.old) (I.faults input.new) task.old task.new }
+    ensures reads { ReadsFor (I.faults input.old) (I.faults input.new) intake.new.taken result }
+    ensures carries { Carries K.view K.disk_faults K.out_faults ServeFault.Turn result task.old task.new }
 {
     match flush(task, gathered) {
         Ok(()) => {}

@@ -2,8 +2,7 @@ ghost use Rattle.std.specs.Prelude.{◌≡◌, ◌≤◌};
 ghost use Rattle.rg_config.specs.Plans.{planned};
 ghost use Rattle.rg_config.specs.Read.{IsReadPlan};
 ghost use Rattle.rg_pipe.specs.Handing.{given_of};
-ghost use Rattle.rg_run.specs.Calls.{HasCause};
-ghost use Rattle.rg_serve.specs.Calls.{Sustains, Answers, IsFit, IsDue};
+ghost use Rattle.rg_serve.specs.Calls.{Carries, Answers, IsFit, IsDue};
 
 use crate::asked::{answer_commit, answer_save};
 use crate::line::answer_line;
@@ -25,8 +24,7 @@ pub fn answer_request<K: Task>(
     requires read { IsReadPlan plan.now }
     requires fit { IsFit request }
     ensures answers { IsDue request.entry (K.view.at task.old).next → Answers K.view (planned plan.now) (given_of request.entry) gathered.old.items gathered.new.items result task.old task.new }
-    ensures sustains { Sustains K.view K.disk_faults K.out_faults result task.old task.new }
-    ensures cause { HasCause K.view K.disk_faults K.out_faults result task.old task.new }
+    ensures carries { Carries K.view K.disk_faults K.out_faults (λ fault. fault) result task.old task.new }
 {
     match request {
         Request::Line(offset, line) => {

@@ -5,8 +5,7 @@ ghost use Rattle.rg_config.specs.Read.{IsReadPlan};
 ghost use Rattle.rg_pipe.specs.Handing.Given.{row};
 ghost use Rattle.rg_task.specs.Terms.{terms_of};
 ghost use Rattle.rg_run_spec.specs.Verdicts.{IsRow};
-ghost use Rattle.rg_run.specs.Calls.{HasCause, FindsDamage};
-ghost use Rattle.rg_serve.specs.Calls.{Sustains, Answers};
+ghost use Rattle.rg_serve.specs.Calls.{Carries, Answers};
 
 use crate::gather::{make_way, stop};
 use crate::settle::settle;
@@ -31,8 +30,7 @@ pub(crate) fn answer_row<K: Task>(
     requires small { offset < 2 ^ 62 }
     ensures answers { (item : List ℕ) → IsRow (terms_of (planned plan.now)).basis offset (Some item) line.now →
         Answers K.view (planned plan.now) (row offset item) gathered.old.items gathered.new.items result task.old task.new }
-    ensures sustains { Sustains K.view K.disk_faults K.out_faults result task.old task.new }
-    ensures cause { HasCause K.view K.disk_faults K.out_faults result task.old task.new }
+    ensures carries { Carries K.view K.disk_faults K.out_faults (λ fault. fault) result task.old task.new }
 {
     match make_way(task, gathered) {
         Ok(()) => {}

@@ -1,13 +1,13 @@
-ghost use Rattle.std.specs.Prelude.{◌≡◌, ◌⊎◌, ◌≤◌, ◌^◌, [], ℕ, List, Option, Some, false, IfOk, OnOk, IfErr};
+ghost use Rattle.std.specs.Prelude.{◌≡◌, ◌≤◌, ◌^◌, ℕ, List, Option, false, IfOk, OnOk, IfErr};
 ghost use Rattle.rg_bytes.specs.Known.{IsAtEnd};
 ghost use Rattle.rg_config.specs.Plans.{Planned, planned};
 ghost use Rattle.rg_config.specs.Read.{IsReadPlan};
 ghost use Rattle.rg_pipe.specs.Sent.{Sent};
-ghost use Rattle.rg_pipe.specs.Streams.{fresh};
 ghost use Rattle.rg_serve_spec.specs.Errands.{Errand};
-ghost use Rattle.rg_serve.specs.Causes.{EndsFor, CountsGrow};
-ghost use Rattle.rg_serve.specs.Coming.{IsComing, CanGoOn, IsTaken};
-ghost use Rattle.rg_serve.specs.Served.{ComesOut, IsToServe, ServesTrue, Explains};
+ghost use Rattle.rg_serve.specs.Calls.{Carries};
+ghost use Rattle.rg_serve.specs.Causes.{ReadsFor};
+ghost use Rattle.rg_serve.specs.Coming.{IsComing, CanGoOn, IsFresh, IsTaken};
+ghost use Rattle.rg_serve.specs.Served.{ComesOut, ServesTrue, Serves};
 ghost use Rattle.rg_serve.specs.Serving.{IsToOpen, IsAwaiting};
 ghost use Rattle.rg_serve.specs.UnderWay.{IsAskedFor, IsUnderWay};
 
@@ -31,13 +31,21 @@ struct Serving {
     text: Vec<u8>,
 }
 
+/// The greatest offset that a line is expected at: none that is sent has it.
+const MAX_EXPECTED_OFFSET: u64 = 1 << 62;
+
+/// The offset that the first line is to have: the task's next one.
+fn first_offset(next: u64) -> u64
+    ensures most { result ≤ 2 ^ 62 }
+    ensures same { next ≤ 2 ^ 62 → result ≡ next }
+{
+    next.min(MAX_EXPECTED_OFFSET)
+}
+
 /// Makes what a serve needs, and gathers the open line. Puts nothing.
 fn begin<K: Task>(alloc: Global, task: &K, from: u64) -> Result<Serving, TurnFault>
-    requires small { (K.view.at task.now).next ≤ 2 ^ 62 }
     ensures awaits { (plan : Planned) (e : Errand) → IsToOpen K.view plan e from task.now → IfOk result (λ s. IsAwaiting K.view plan e e.given task.now s.gathered.items) }
-    ensures pipe { IfOk result (λ s. s.pipe ≡ fresh (K.view.at task.now).next) }
-    ensures held { IfOk result (λ s. s.intake.held ≡ []) }
-    ensures taken { IfOk result (λ s. s.intake.taken ≡ 0) }
+    ensures fresh { IfOk result (λ s. IsFresh (K.view.at task.now).next s.intake s.pipe) }
     ensures fault { IfErr result (λ fault. fault ≡ TurnFault.Task TaskFault.Memory) }
 {
     let mut gathered = Vec::new(alloc);
@@ -46,7 +54,8 @@ fn begin<K: Task>(alloc: Global, task: &K, from: u64) -> Result<Serving, TurnFau
         Ok(()) => {}
         Err(fault) => return Err(fault),
     }
-    match (Intake::new(alloc), Pipe::new(alloc, task.next())) {
+    let first = first_offset(task.next());
+    match (Intake::new(alloc), Pipe::new(alloc, first)) {
         (Ok(intake), Ok(pipe)) => Ok(Serving {
             intake,
             pipe,
@@ -69,7 +78,6 @@ fn answer_all<I: Source, K: Task>(
 ) -> Result<(), ServeFault>
     requires read { IsReadPlan plan.now }
     requires can { CanGoOn intake.old pipe.old }
-    requires going { (K.view.at task.old).ended ≡ false }
     ensures serves { (e : Errand) (requests : List Sent) (rest : List ℕ) → IsAskedFor e requests →
         IsUnderWay K.view (planned plan.now) e requests rest (I.left input.old) pipe.old intake.old.held task.old gathered.old.items →
         ServesTrue K.view (planned plan.now) e requests rest (I.left input.new) result task.old task.new }
@@ -77,8 +85,8 @@ fn answer_all<I: Source, K: Task>(
     ensures at_end { OnOk result (IsAtEnd (I.left input.new)) }
     ensures within { OnOk result (intake.new.taken ≤ 2 ^ 50) }
     ensures taken { (start : Option (List ℕ)) → IsTaken start (I.left input.old) intake.old.taken → IsTaken start (I.left input.new) intake.new.taken }
-    ensures cause { EndsFor K.view K.disk_faults K.out_faults (I.faults input.old) (I.faults input.new) intake.new.taken result task.old task.new }
-    ensures counts { CountsGrow K.view K.disk_faults K.out_faults (I.faults input.old) (I.faults input.new) task.old task.new }
+    ensures reads { ReadsFor (I.faults input.old) (I.faults input.new) intake.new.taken result }
+    ensures carries { Carries K.view K.disk_faults K.out_faults ServeFault.Turn result task.old task.new }
 {
     'requests: loop {
         match turn(intake, pipe, plan, input, task, gathered, text) {
@@ -90,8 +98,8 @@ fn answer_all<I: Source, K: Task>(
 }
 
 /// Answers the requests of an input in frames, by a plan, over a task whose store was opened, from a checkpoint of the
-/// first `from` events. Puts the open line first; the first line has the task's next offset, at most 2^62. An input has at
-/// most 2^50 bytes. Each refusal but `Write` leaves whole replies put.
+/// first `from` events. Puts the open line first; the first line has the task's next offset. An input has at most 2^50
+/// bytes. Each refusal but `Write` leaves whole replies put.
 pub fn serve<I: Source, K: Task>(
     alloc: Global,
     plan: &Plan,
@@ -101,12 +109,7 @@ pub fn serve<I: Source, K: Task>(
 ) -> Result<(), ServeFault>
     requires read { IsReadPlan plan.now }
     requires going { (K.view.at task.old).ended ≡ false }
-    requires small { (K.view.at task.old).next ≤ 2 ^ 62 }
-    ensures serves { (e : Errand) (requests : List Sent) (rest : List ℕ) →
-        IsToServe K.view (planned plan.now) e requests rest (I.left input.old) from task.old →
-        ServesTrue K.view (planned plan.now) e requests rest (I.left input.new) result task.old task.new }
-    ensures cause { Explains K.view K.disk_faults K.out_faults I.left I.faults result input.old input.new task.old task.new }
-    ensures counts { CountsGrow K.view K.disk_faults K.out_faults (I.faults input.old) (I.faults input.new) task.old task.new }
+    ensures promises { Serves K.view K.disk_faults K.out_faults I.left I.faults (planned plan.now) from result input.old input.new task.old task.new }
 {
     match begin(alloc, task, from) {
         Ok(mut s) => answer_all(

@@ -1,6 +1,5 @@
-ghost use Rattle.rg_run.specs.Calls.{HasCause};
 ghost use Rattle.rg_run.specs.declared.due.Due.{Due};
-ghost use Rattle.rg_serve.specs.Calls.{Sustains, Settles};
+ghost use Rattle.rg_serve.specs.Calls.{Carries, Settles};
 
 use crate::gather::flush;
 use rg_run::{Due, TurnFault};
@@ -9,8 +8,7 @@ use rg_task::Task;
 /// Stores all events within a request, once all that is gathered is put.
 fn store<K: Task>(task: &mut K, gathered: &mut Vec<u8>) -> Result<(), TurnFault>
     ensures settles { Settles K.view Due.Commit gathered.old.items gathered.new.items result task.old task.new }
-    ensures sustains { Sustains K.view K.disk_faults K.out_faults result task.old task.new }
-    ensures cause { HasCause K.view K.disk_faults K.out_faults result task.old task.new }
+    ensures carries { Carries K.view K.disk_faults K.out_faults (λ fault. fault) result task.old task.new }
 {
     match flush(task, gathered) {
         Ok(()) => {}
@@ -25,8 +23,7 @@ fn store<K: Task>(task: &mut K, gathered: &mut Vec<u8>) -> Result<(), TurnFault>
 /// Stores all events within a request, and saves a checkpoint of them, once all that is gathered is put.
 fn save_all<K: Task>(task: &mut K, gathered: &mut Vec<u8>) -> Result<(), TurnFault>
     ensures settles { Settles K.view Due.Save gathered.old.items gathered.new.items result task.old task.new }
-    ensures sustains { Sustains K.view K.disk_faults K.out_faults result task.old task.new }
-    ensures cause { HasCause K.view K.disk_faults K.out_faults result task.old task.new }
+    ensures carries { Carries K.view K.disk_faults K.out_faults (λ fault. fault) result task.old task.new }
 {
     match flush(task, gathered) {
         Ok(()) => {}
@@ -45,8 +42,7 @@ pub(crate) fn settle<K: Task>(
     due: Due,
 ) -> Result<(), TurnFault>
     ensures settles { Settles K.view due gathered.old.items gathered.new.items result task.old task.new }
-    ensures sustains { Sustains K.view K.disk_faults K.out_faults result task.old task.new }
-    ensures cause { HasCause K.view K.disk_faults K.out_faults result task.old task.new }
+    ensures carries { Carries K.view K.disk_faults K.out_faults (λ fault. fault) result task.old task.new }
 {
     match due {
         Due::Nothing => Ok(()),

@@ -3,6 +3,7 @@ use Rattle.rg_host.proofs.Laws.{moments_then}
 use Rattle.rg_pipe.specs.Handing.Given.{row}
 use Rattle.rg_serve_spec.specs.Errands.{StaysOnErrand}
 use Rattle.rg_serve.proofs.Replied.{replies, awaits_still}
+use Rattle.rg_serve.proofs.Carrying.{carries_then}
 use Rattle.rg_serve.proofs.decided.answer_control.Goals as goal
 
 pub returns-in-Err-clause-answers : goal.returns-in-Err-clause-answers
@@ -54,3 +55,12 @@ returns-in-Err-answer_decided-clause-answers g c plan item asks =
           let w = c.in-Ok.ensures.loads.within plan e (replies g.K.Task.view plan e given ahead old left a) a.within in
           answers.halted e ahead (awaits_still g.K.Task.view plan e given ahead old left a c.load.new.task c.load.new.gathered.items w c.in-Ok.ensures.loads.events);
     }
+
+pub returns-in-Err-clause-carries : goal.returns-in-Err-clause-carries
+returns-in-Err-clause-carries g c = c.in-Err.ensures.carries
+
+pub returns-in-Ok-answer_decided-clause-carries : goal.returns-in-Ok-answer_decided-clause-carries
+returns-in-Ok-answer_decided-clause-carries g c = carries_then g.K.Task.view g.K.Task.disk_faults g.K.Task.out_faults (λ f. f) (λ f. f) _ _ c.args.task.now c.load.new.task c.answer_decided.new.task c.in-Ok.ensures.carries c.in-Ok-answer_decided.ensures.carries
+
+pub returns-in-Err-answer_decided-clause-carries : goal.returns-in-Err-answer_decided-clause-carries
+returns-in-Err-answer_decided-clause-carries g c = carries_then g.K.Task.view g.K.Task.disk_faults g.K.Task.out_faults (λ f. f) (λ f. f) _ _ c.args.task.now c.load.new.task c.answer_decided.new.task c.in-Ok.ensures.carries c.in-Err-answer_decided.ensures.carries

@@ -6,6 +6,8 @@ use Rattle.rg_serve.specs.Serving.{IsHeld}
 use Rattle.rg_serve.proofs.Replied.{replies}
 use Rattle.rg_serve.proofs.Rows.{decided_answered}
 use Rattle.rg_serve.proofs.Within.{held_within}
+use Rattle.std.specs.Prelude.{⊤}
+use Rattle.rg_serve.proofs.Carrying.{carries_then, carries_memory, carries_stop}
 use Rattle.rg_serve.proofs.decided.answer_decided.Goals as goal
 
 pub returns-in-Err-clause-answers : goal.returns-in-Err-clause-answers
@@ -52,3 +54,15 @@ returns-in-Err-tell_line-clause-answers g c plan item decided =
           let held = held_within g.K.Task.view plan e rs mid c.settle.new.gathered.items (c.in-Ok.ensures.settles.within plan e rs a.within) in
           c.stop.ensures.stops.halted plan e (subst (λ (l : List ℕ). IsHeld g.K.Task.view plan e mid l) (sym c.in-Err-tell_line.ensures.gathers.none) held);
     }
+
+pub returns-in-Err-clause-carries : goal.returns-in-Err-clause-carries
+returns-in-Err-clause-carries g c = c.in-Err.ensures.carries
+
+pub returns-in-Ok-tell_line-clause-carries : goal.returns-in-Ok-tell_line-clause-carries
+returns-in-Ok-tell_line-clause-carries g c = c.in-Ok.ensures.carries
+
+pub returns-in-Err-tell_line-clause-carries : goal.returns-in-Err-tell_line-clause-carries
+returns-in-Err-tell_line-clause-carries g c =
+    carries_then g.K.Task.view g.K.Task.disk_faults g.K.Task.out_faults (λ f. f) (λ f. f) _ _ c.args.task.now c.settle.new.task c.stop.new.task c.in-Ok.ensures.carries
+    (carries_stop g.K.Task.view g.K.Task.disk_faults g.K.Task.out_faults c.stop.result c.in-Err-tell_line.fault c.settle.new.task c.settle.new.task c.stop.new.task
+    (carries_memory g.K.Task.view g.K.Task.disk_faults g.K.Task.out_faults {A = ⊤} c.in-Err-tell_line.fault c.in-Err-tell_line.ensures.gathers.fault g.met.K.Task.only_now g.met.K.Task.sinks c.settle.new.task) c.stop.ensures.only c.stop.ensures.which)

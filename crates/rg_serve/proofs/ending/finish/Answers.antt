@@ -1,9 +1,11 @@
-use Rattle.std.proofs.Common.{List, [], ℕ, inl, sym, subst}
+use Rattle.std.proofs.Common.{Err, ap, List, [], ℕ, inl, sym, subst}
 use Rattle.rg_host.proofs.Laws.{moments_then}
 use Rattle.rg_serve_spec.specs.Errands.{replies_of, StaysOnErrand}
 use Rattle.rg_serve.specs.Serving.{IsHeld, IsWithin}
 use Rattle.rg_serve.proofs.Ended.{replies, end_within, served}
 use Rattle.rg_serve.proofs.Within.{held_within}
+use Rattle.std.specs.Prelude.{⊤}
+use Rattle.rg_serve.proofs.Carrying.{carries_then, carries_put, carries_failed, carries_memory, carries_stop}
 use Rattle.rg_serve.proofs.ending.finish.Goals as goal
 
 pub returns-in-Err-clause-finishes : goal.returns-in-Err-clause-finishes
@@ -55,7 +57,7 @@ returns-in-Ok-flush-clause-finishes g c plan =
           c.tell_end.ensures.counted c.in-Ok-tell_end.ensures.gathers.all c.in-Ok-tell_end.ensures.gathers.small in
           let put = subst (λ (l : List ℕ). IsWithin g.K.Task.view plan e (replies_of e) c.flush.new.task l) c.flush.ensures.empty (c.in-Ok-flush.ensures.flushes.within plan e (replies_of e) w3) in
           served g.K.Task.view plan e c.args.offset is old left a mid c.settle.new.gathered.items c.tell_end.new.gathered.items w2 (c.in-Ok.ensures.settles.events plan a.within.running) (c.in-Ok.ensures.settles.done plan a.within.running)
-          c.tell_end.ensures.counted c.in-Ok-tell_end.ensures.gathers.all c.in-Ok-tell_end.ensures.gathers.small c.flush.new.task c.flush.ensures.only.keeps put;
+          c.tell_end.ensures.counted c.in-Ok-tell_end.ensures.gathers.all c.in-Ok-tell_end.ensures.gathers.small c.flush.new.task c.flush.ensures.only.keeps c.flush.ensures.only.files put;
       halted = λ e is a. tt;
     }
 
@@ -75,3 +77,21 @@ returns-in-Err-flush-clause-finishes g c plan =
       served = λ e is a. tt;
       halted = λ e is a. inl c.in-Err-flush.ensures.faults;
     }
+
+pub returns-in-Err-clause-carries : goal.returns-in-Err-clause-carries
+returns-in-Err-clause-carries g c = c.in-Err.ensures.carries
+
+pub returns-in-Err-tell_end-clause-carries : goal.returns-in-Err-tell_end-clause-carries
+returns-in-Err-tell_end-clause-carries g c =
+    carries_then g.K.Task.view g.K.Task.disk_faults g.K.Task.out_faults (λ f. f) (λ f. f) _ _ c.args.task.now c.settle.new.task c.stop.new.task c.in-Ok.ensures.carries
+    (carries_stop g.K.Task.view g.K.Task.disk_faults g.K.Task.out_faults c.stop.result c.in-Err-tell_end.fault c.settle.new.task c.settle.new.task c.stop.new.task
+    (carries_memory g.K.Task.view g.K.Task.disk_faults g.K.Task.out_faults {A = ⊤} c.in-Err-tell_end.fault c.in-Err-tell_end.ensures.gathers.fault g.met.K.Task.only_now g.met.K.Task.sinks c.settle.new.task) c.stop.ensures.only c.stop.ensures.which)
+
+pub returns-in-Ok-flush-clause-carries : goal.returns-in-Ok-flush-clause-carries
+returns-in-Ok-flush-clause-carries g c =
+    carries_then g.K.Task.view g.K.Task.disk_faults g.K.Task.out_faults (λ f. f) (λ f. f) _ _ c.args.task.now c.settle.new.task c.flush.new.task c.in-Ok.ensures.carries (carries_put g.K.Task.view g.K.Task.disk_faults g.K.Task.out_faults c.settle.new.task c.flush.new.task c.flush.ensures.only (λ f. f) _)
+
+pub returns-in-Err-flush-clause-carries : goal.returns-in-Err-flush-clause-carries
+returns-in-Err-flush-clause-carries g c =
+    carries_then g.K.Task.view g.K.Task.disk_faults g.K.Task.out_faults (λ f. f) (λ f. f) _ _ c.args.task.now c.settle.new.task c.flush.new.task c.in-Ok.ensures.carries
+    (carries_failed g.K.Task.view g.K.Task.disk_faults g.K.Task.out_faults c.settle.new.task c.flush.new.task c.flush.ensures.only c.in-Err-flush.fault c.in-Err-flush.ensures.faults (c.in-Err-flush.ensures.write (ap (λ f. Err f) c.in-Err-flush.ensures.faults)))

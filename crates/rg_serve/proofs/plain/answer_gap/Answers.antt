@@ -6,6 +6,8 @@ use Rattle.rg_serve.specs.Serving.{IsHeld}
 use Rattle.rg_serve.proofs.Marked.{nothing_holds, digit_nothing}
 use Rattle.rg_serve.proofs.Replied.{replies, answered}
 use Rattle.rg_serve.proofs.Within.{still_moments, held_within}
+use Rattle.std.specs.Prelude.{⊤}
+use Rattle.rg_serve.proofs.Carrying.{carries_none, carries_memory, carries_stop}
 use Rattle.rg_serve.proofs.plain.answer_gap.Goals as goal
 
 pub returns-in-Ok-clause-answers : goal.returns-in-Ok-clause-answers
@@ -31,3 +33,11 @@ returns-in-Err-clause-answers g c plan =
       awaits = λ e ahead a. tt;
       halted = λ e ahead a. c.stop.ensures.stops.halted plan e (subst (λ (l : List ℕ). IsHeld g.K.Task.view plan e t l) (sym c.in-Err.ensures.gathers.none) (held_within g.K.Task.view plan e (replies g.K.Task.view plan e given ahead t left a) t left a.within));
     }
+
+pub returns-in-Ok-clause-carries : goal.returns-in-Ok-clause-carries
+returns-in-Ok-clause-carries g c = carries_none g.K.Task.view g.K.Task.disk_faults g.K.Task.out_faults (λ f. f) _ g.met.K.Task.only_now g.met.K.Task.sinks c.args.task.now
+
+pub returns-in-Err-clause-carries : goal.returns-in-Err-clause-carries
+returns-in-Err-clause-carries g c =
+    carries_stop g.K.Task.view g.K.Task.disk_faults g.K.Task.out_faults c.stop.result c.in-Err.fault c.args.task.now c.args.task.now c.stop.new.task (carries_memory g.K.Task.view g.K.Task.disk_faults g.K.Task.out_faults {A = ⊤} c.in-Err.fault c.in-Err.ensures.gathers.fault g.met.K.Task.only_now g.met.K.Task.sinks c.args.task.now)
+    c.stop.ensures.only c.stop.ensures.which

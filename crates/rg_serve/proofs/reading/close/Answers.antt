@@ -5,6 +5,9 @@ use Rattle.rg_serve.specs.declared.fault.ServeFault.TheVariants.{Turn}
 use Rattle.rg_serve.proofs.Coming.{frame_comes}
 use Rattle.rg_serve.proofs.Going.{replies_done, within_halted}
 use Rattle.rg_serve.proofs.Within.{still_moments}
+use Rattle.rg_run.proofs.Laws.{only_none}
+use Rattle.rg_serve.proofs.Carrying.{carries_ok, carries_turn, carries_unput, pipe_no}
+use Rattle.rg_run.specs.declared.fault.TurnFault.TheVariants as turn
 use Rattle.rg_serve.proofs.reading.close.Goals as goal
 
 pub returns-in-Err-clause-closes : goal.returns-in-Err-clause-closes
@@ -37,3 +40,14 @@ returns-in-Err-finish-clause-closes g c plan =
       served = λ e is a. tt;
       halted = λ e is a. ⊎_elim (λ write. inl (ap (λ (f : TurnFault). Turn f) write)) (λ h. inr h) ((c.in-Err-finish.ensures.finishes plan).halted e (is ∙ sym c.in-Ok.ensures.0) (subst (λ (l : List ℕ). IsAwaiting g.K.Task.view plan e [] old l) (sym c.requires.none) a));
     }
+
+pub returns-in-Err-clause-carries : goal.returns-in-Err-clause-carries
+returns-in-Err-clause-carries g c =
+    carries_unput g.K.Task.view g.K.Task.disk_faults g.K.Task.out_faults c.args.task.now c.args.task.now (only_none g.K.Task.view g.K.Task.disk_faults g.K.Task.out_faults g.met.K.Task.only_now g.met.K.Task.sinks c.args.task.now) Turn c.frame_fault.result
+    (λ e is. pipe_no c.in-Err.fault (turn.Task e) (sym c.frame_fault.ensures ∙ is)) (λ is. absurd (pipe_no c.in-Err.fault turn.Write (sym c.frame_fault.ensures ∙ is)))
+
+pub returns-in-Ok-finish-clause-carries : goal.returns-in-Ok-finish-clause-carries
+returns-in-Ok-finish-clause-carries g c = carries_ok g.K.Task.view g.K.Task.disk_faults g.K.Task.out_faults (λ f. f) Turn _ _ c.args.task.now c.finish.new.task c.in-Ok-finish.ensures.carries
+
+pub returns-in-Err-finish-clause-carries : goal.returns-in-Err-finish-clause-carries
+returns-in-Err-finish-clause-carries g c = carries_turn g.K.Task.view g.K.Task.disk_faults g.K.Task.out_faults c.in-Err-finish.fault c.args.task.now c.finish.new.task c.in-Err-finish.ensures.carries

@@ -1,9 +1,14 @@
-use Rattle.std.proofs.Common.{List, [], ℕ, inl, sym, ap, subst, arith}
+use Rattle.std.proofs.Common.{Err, List, [], ℕ, inl, sym, ap, subst, arith}
+use Rattle.std.specs.Prelude.{⊤}
 use Rattle.rg_serve.specs.Intaking.{Intaking}
 use Rattle.rg_serve.specs.UnderWay.{IsUnderWay}
 use Rattle.rg_task.specs.State.{State}
 use Rattle.rg_serve.proofs.Coming.{reads_some, reads_none, reads_failed, reads_many, at_end_before, closed_comes, taken_more}
 use Rattle.rg_serve.proofs.Going.{replies_done, under_flushed, under_read, goes_end, goes_then, stops_read, stops_limit}
+use Rattle.rg_run.specs.declared.fault.TurnFault.{TurnFault}
+use Rattle.rg_run.specs.declared.fault.TurnFault.TheVariants as turn
+use Rattle.rg_serve.specs.declared.fault.ServeFault.TheVariants.{Turn, Read, Limit}
+use Rattle.rg_serve.proofs.Carrying.{carries_then, carries_put, carries_failed, carries_turn, carries_unput, read_no, limit_no, short_over, carries_first}
 use Rattle.rg_serve.proofs.reading.read_on.Goals as goal
 
 pub returns-in-Err-clause-serves : goal.returns-in-Err-clause-serves
@@ -79,3 +84,23 @@ pub returns-in-Err-Limit-clause-taken : goal.returns-in-Err-Limit-clause-taken
 returns-in-Err-Limit-clause-taken g c start t =
     let drops = reads_many _ _ _ _ _ c.in-Err-Limit.field-0-is c.in-Err-Limit.ensures.reads in
     taken_more start _ _ _ _ _ drops.took drops.count t
+
+pub returns-in-Err-clause-carries : goal.returns-in-Err-clause-carries
+returns-in-Err-clause-carries g c =
+    carries_turn g.K.Task.view g.K.Task.disk_faults g.K.Task.out_faults {A = ⊤} c.in-Err.fault c.args.task.now c.flush.new.task (carries_failed g.K.Task.view g.K.Task.disk_faults g.K.Task.out_faults c.args.task.now c.flush.new.task c.flush.ensures.only c.in-Err.fault c.in-Err.ensures.faults (c.in-Err.ensures.write (ap (λ (f : TurnFault). Err f) c.in-Err.ensures.faults)))
+
+pub returns-in-Ok-true-clause-carries : goal.returns-in-Ok-true-clause-carries
+returns-in-Ok-true-clause-carries g c = carries_put g.K.Task.view g.K.Task.disk_faults g.K.Task.out_faults c.args.task.now c.flush.new.task c.flush.ensures.only Turn _
+
+pub returns-in-Ok-false-clause-carries : goal.returns-in-Ok-false-clause-carries
+returns-in-Ok-false-clause-carries g c =
+    carries_then g.K.Task.view g.K.Task.disk_faults g.K.Task.out_faults (λ f. f) Turn _ _ c.args.task.now c.flush.new.task c.close.new.task (carries_first g.K.Task.view g.K.Task.disk_faults g.K.Task.out_faults c.args.task.now c.flush.new.task c.flush.ensures.only) c.close.ensures.carries
+
+pub returns-in-Err-Read-clause-carries : goal.returns-in-Err-Read-clause-carries
+returns-in-Err-Read-clause-carries g c = carries_unput g.K.Task.view g.K.Task.disk_faults g.K.Task.out_faults c.args.task.now c.flush.new.task c.flush.ensures.only Turn Read (λ e is. read_no (turn.Task e) is) (λ is. absurd (read_no turn.Write is))
+
+pub returns-in-Err-Limit-clause-carries : goal.returns-in-Err-Limit-clause-carries
+returns-in-Err-Limit-clause-carries g c = carries_unput g.K.Task.view g.K.Task.disk_faults g.K.Task.out_faults c.args.task.now c.flush.new.task c.flush.ensures.only Turn Limit (λ e is. limit_no (turn.Task e) is) (λ is. absurd (limit_no turn.Write is))
+
+pub returns-in-Ok-false-clause-short : goal.returns-in-Ok-false-clause-short
+returns-in-Ok-false-clause-short g c = short_over c.close.result _ c.close.ensures.over

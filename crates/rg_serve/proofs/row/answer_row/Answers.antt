@@ -1,4 +1,4 @@
-use Rattle.std.proofs.Common.{List, [], ℕ, inl, ◌≤◌, length, sym, ◌∙◌, ap, subst, arith}
+use Rattle.std.proofs.Common.{Ok, Err, List, [], ℕ, inl, ⊎_elim, ◌≤◌, length, sym, ◌∙◌, ap, subst, arith}
 use Rattle.rg_host.specs.Moments.{Moments}
 use Rattle.rg_host.proofs.Laws.{moments_then}
 use Rattle.rg_event.specs.declared.event.Event.{Event}
@@ -10,6 +10,11 @@ use Rattle.rg_serve.specs.Serving.{IsHeld, IsAwaiting}
 use Rattle.rg_serve.proofs.Replied.{replies, awaits_still}
 use Rattle.rg_serve.proofs.Rows.{row_within, row_answered}
 use Rattle.rg_serve.proofs.Within.{held_within, line_moments, line_held}
+use Rattle.std.specs.Prelude.{⊤}
+use Rattle.rg_run.specs.declared.fault.TurnFault.TheVariants as turn
+use Rattle.rg_run.proofs.Laws.{log_held}
+use Rattle.rg_serve.specs.Calls.{Carries}
+use Rattle.rg_serve.proofs.Carrying.{carries_done, carries_refused, carries_then, carries_failed, carries_memory, carries_stop, carries_first}
 use Rattle.rg_serve.proofs.row.answer_row.Goals as goal
 
 pub line-requires-clause-next : goal.line-requires-clause-next
@@ -52,16 +57,6 @@ returns-in-Err-line-clause-answers g c item reads =
           c.stop.ensures.stops.halted plan e (line_held g.K.Task.view plan e rs mid taken left w1 c.in-Ok.ensures.way (c.line.ensures.within_step plan (g.K.Task.view.at mid).keep w1.running) c.line.ensures.roomy);
     }
 
-pub returns-in-Err-line-clause-sustains : goal.returns-in-Err-line-clause-sustains
-returns-in-Err-line-clause-sustains g c = record {
-  node = λ plan n runs. tt;
-  placed = λ plan placed. tt;
-  going = λ going. tt;
-  goes = g.K.Task.view.goes_join c.args.task.now c.make_way.new.task c.stop.new.task c.make_way.ensures.only.keeps.goes (g.K.Task.view.goes_join c.make_way.new.task c.line.new.self c.stop.new.task c.line.ensures.goes c.stop.ensures.only.keeps.goes);
-  disk_faults_grow = omega (arith, c.make_way.ensures.only.disk_faults_stay, c.line.ensures.disk_faults, c.stop.ensures.only.disk_faults_stay);
-  out_faults_grow = omega (arith, c.make_way.ensures.only.out_faults_grow, c.line.ensures.out_faults, c.stop.ensures.only.out_faults_grow);
-}
-
 pub returns-in-Err-settle-clause-answers : goal.returns-in-Err-settle-clause-answers
 returns-in-Err-settle-clause-answers g c item reads =
     let plan = planned c.args.plan.now in
@@ -94,16 +89,6 @@ returns-in-Err-settle-clause-answers g c item reads =
           (c.in-Ok-line.ensures.stored plan (g.K.Task.view.at mid).keep w1.running) c.line.ensures.keep (c.in-Ok-line.ensures.running plan w1.running) (c.in-Ok-line.ensures.events plan w1.running) in
           c.in-Err-settle.ensures.settles.halted plan e rs w2;
     }
-
-pub returns-in-Err-settle-clause-sustains : goal.returns-in-Err-settle-clause-sustains
-returns-in-Err-settle-clause-sustains g c = record {
-  node = λ plan n runs. tt;
-  placed = λ plan placed. tt;
-  going = λ going. tt;
-  goes = g.K.Task.view.goes_join c.args.task.now c.make_way.new.task c.settle.new.task c.make_way.ensures.only.keeps.goes (g.K.Task.view.goes_join c.make_way.new.task c.line.new.self c.settle.new.task c.line.ensures.goes c.settle.ensures.sustains.goes);
-  disk_faults_grow = let d = c.settle.ensures.sustains.disk_faults_grow in omega (arith, c.make_way.ensures.only.disk_faults_stay, c.line.ensures.disk_faults, d);
-  out_faults_grow = let o = c.settle.ensures.sustains.out_faults_grow in omega (arith, c.make_way.ensures.only.out_faults_grow, c.line.ensures.out_faults, o);
-}
 
 pub returns-in-Ok-tell_line-clause-answers : goal.returns-in-Ok-tell_line-clause-answers
 returns-in-Ok-tell_line-clause-answers g c item reads =
@@ -156,23 +141,6 @@ returns-in-Ok-tell_line-clause-answers g c item reads =
       halted = λ e ahead a. tt;
     }
 
-pub returns-in-Ok-tell_line-clause-sustains : goal.returns-in-Ok-tell_line-clause-sustains
-returns-in-Ok-tell_line-clause-sustains g c = record {
-  node = λ plan n runs.
-      let s = c.in-Ok-settle.ensures.sustains.node plan n (c.in-Ok-line.ensures.node plan n (c.make_way.ensures.only.keeps.node plan n runs)) in
-      subst (λ (x : g.row.K.Denot). g.K.Task.view.node plan n x) (sym c.reuse.ensures) s;
-  placed = λ plan placed.
-      let s = c.in-Ok-settle.ensures.sustains.placed plan (c.in-Ok-line.ensures.placed plan (c.make_way.ensures.only.keeps.placed plan placed)) in
-      subst (λ (x : g.row.K.Denot). g.K.Task.view.placed plan x) (sym c.reuse.ensures) s;
-  going = λ going.
-      let s = c.in-Ok-settle.ensures.sustains.going c.in-Ok-line.ensures.going in
-      ap (λ (x : g.row.K.Denot). (g.K.Task.view.at x).ended) c.reuse.ensures ∙ s;
-  goes = subst (λ (x : g.row.K.Denot). g.K.Task.view.goes c.args.task.now x) (sym c.reuse.ensures)
-      (g.K.Task.view.goes_join c.args.task.now c.make_way.new.task c.settle.new.task c.make_way.ensures.only.keeps.goes (g.K.Task.view.goes_join c.make_way.new.task c.line.new.self c.settle.new.task c.line.ensures.goes c.settle.ensures.sustains.goes));
-  disk_faults_grow = let d = c.settle.ensures.sustains.disk_faults_grow in omega (arith, c.make_way.ensures.only.disk_faults_stay, c.line.ensures.disk_faults, d, ap g.K.Task.disk_faults c.reuse.ensures);
-  out_faults_grow = let o = c.settle.ensures.sustains.out_faults_grow in omega (arith, c.make_way.ensures.only.out_faults_grow, c.line.ensures.out_faults, o, ap g.K.Task.out_faults c.reuse.ensures);
-}
-
 pub returns-in-Err-tell_line-clause-answers : goal.returns-in-Err-tell_line-clause-answers
 returns-in-Err-tell_line-clause-answers g c item reads =
     let plan = planned c.args.plan.now in
@@ -224,13 +192,56 @@ returns-in-Err-tell_line-clause-answers g c item reads =
           c.stop-in-Err-tell_line.ensures.stops.halted plan e held;
     }
 
-pub returns-in-Err-tell_line-clause-sustains : goal.returns-in-Err-tell_line-clause-sustains
-returns-in-Err-tell_line-clause-sustains g c = record {
-  node = λ plan n runs. tt;
-  placed = λ plan placed. tt;
-  going = λ going. tt;
-  goes = g.K.Task.view.goes_join c.args.task.now c.settle.new.task c.stop-in-Err-tell_line.new.task
-      (g.K.Task.view.goes_join c.args.task.now c.make_way.new.task c.settle.new.task c.make_way.ensures.only.keeps.goes (g.K.Task.view.goes_join c.make_way.new.task c.line.new.self c.settle.new.task c.line.ensures.goes c.settle.ensures.sustains.goes)) c.stop-in-Err-tell_line.ensures.only.keeps.goes;
-  disk_faults_grow = let d = c.settle.ensures.sustains.disk_faults_grow in omega (arith, c.make_way.ensures.only.disk_faults_stay, c.line.ensures.disk_faults, d, c.stop-in-Err-tell_line.ensures.only.disk_faults_stay);
-  out_faults_grow = let o = c.settle.ensures.sustains.out_faults_grow in omega (arith, c.make_way.ensures.only.out_faults_grow, c.line.ensures.out_faults, o, c.stop-in-Err-tell_line.ensures.only.out_faults_grow);
-}
+pub returns-in-Err-clause-carries : goal.returns-in-Err-clause-carries
+returns-in-Err-clause-carries g c = carries_failed g.K.Task.view g.K.Task.disk_faults g.K.Task.out_faults c.args.task.now c.make_way.new.task c.make_way.ensures.only c.in-Err.fault c.in-Err.ensures.faults (c.in-Err.ensures.write (ap (λ f. Err f) c.in-Err.ensures.faults))
+
+pub returns-in-Err-line-clause-carries : goal.returns-in-Err-line-clause-carries
+returns-in-Err-line-clause-carries g c =
+    let mid = c.make_way.new.task in
+    let taken = c.line.new.self in
+    carries_then g.K.Task.view g.K.Task.disk_faults g.K.Task.out_faults (λ f. f) (λ f. f) _ _ c.args.task.now mid c.stop.new.task (carries_first g.K.Task.view g.K.Task.disk_faults g.K.Task.out_faults c.args.task.now mid c.make_way.ensures.only)
+    (carries_stop g.K.Task.view g.K.Task.disk_faults g.K.Task.out_faults c.stop.result (turn.Task c.in-Err-line.fault) mid taken c.stop.new.task
+    (carries_refused g.K.Task.view g.K.Task.disk_faults g.K.Task.out_faults {A = ⊤} c.in-Err-line.fault mid taken c.line.ensures.goes
+    (λ plan held placed holds. log_held g.K.Task.view plan held (g.K.Task.view.at mid).chunk mid taken (c.line.ensures.log_stays plan placed) holds) c.line.ensures.disk_faults (omega (arith, c.line.ensures.out_faults))
+    (λ is. c.line.ensures.disk (c.in-Err-line.is ∙ ap (λ v. Err v) is)) (λ is. c.line.ensures.ended (c.in-Err-line.is ∙ ap (λ v. Err v) is))
+    (λ plan n runs is. ⊎_elim (λ r. c.line.ensures.never_bad plan n r (c.in-Err-line.is ∙ ap (λ v. Err v) is)) (λ r. c.line.ensures.never_bad_node plan n r (c.in-Err-line.is ∙ ap (λ v. Err v) is)) runs)
+    (λ plan p placed is. c.line.ensures.undamaged plan p placed (c.in-Err-line.is ∙ ap (λ v. Err v) is)) (λ p is. c.line.ensures.damaged p (c.in-Err-line.is ∙ ap (λ v. Err v) is)))
+    c.stop.ensures.only c.stop.ensures.which)
+
+pub returns-in-Err-settle-clause-carries : goal.returns-in-Err-settle-clause-carries
+returns-in-Err-settle-clause-carries g c =
+    let mid = c.make_way.new.task in
+    let taken = c.line.new.self in
+    let done = c.in-Ok-line.ensures in
+    carries_then g.K.Task.view g.K.Task.disk_faults g.K.Task.out_faults (λ f. f) (λ f. f) _ _ c.args.task.now mid c.settle.new.task (carries_first g.K.Task.view g.K.Task.disk_faults g.K.Task.out_faults c.args.task.now mid c.make_way.ensures.only)
+    (carries_then g.K.Task.view g.K.Task.disk_faults g.K.Task.out_faults (λ f. f) (λ f. f) _ _ mid taken c.settle.new.task
+    (carries_done g.K.Task.view g.K.Task.disk_faults g.K.Task.out_faults {A = ⊤} (λ f. f) tt mid taken done.running done.node done.placed (λ going. done.going) c.line.ensures.goes
+    (λ plan held placed holds. log_held g.K.Task.view plan held (g.K.Task.view.at mid).chunk mid taken (c.line.ensures.log_stays plan placed) holds) c.line.ensures.disk_faults (omega (arith, c.line.ensures.out_faults)))
+    c.in-Err-settle.ensures.carries)
+
+pub returns-in-Ok-tell_line-clause-carries : goal.returns-in-Ok-tell_line-clause-carries
+returns-in-Ok-tell_line-clause-carries g c =
+    let mid = c.make_way.new.task in
+    let taken = c.line.new.self in
+    let done = c.in-Ok-line.ensures in
+    subst (λ (x : g.row.K.Denot). Carries g.K.Task.view g.K.Task.disk_faults g.K.Task.out_faults (λ f. f) (Ok tt) c.args.task.now x) (sym c.reuse.ensures)
+    (carries_then g.K.Task.view g.K.Task.disk_faults g.K.Task.out_faults (λ f. f) (λ f. f) _ _ c.args.task.now mid c.settle.new.task (carries_first g.K.Task.view g.K.Task.disk_faults g.K.Task.out_faults c.args.task.now mid c.make_way.ensures.only)
+    (carries_then g.K.Task.view g.K.Task.disk_faults g.K.Task.out_faults (λ f. f) (λ f. f) _ _ mid taken c.settle.new.task
+    (carries_done g.K.Task.view g.K.Task.disk_faults g.K.Task.out_faults {A = ⊤} (λ f. f) tt mid taken done.running done.node done.placed (λ going. done.going) c.line.ensures.goes
+    (λ plan held placed holds. log_held g.K.Task.view plan held (g.K.Task.view.at mid).chunk mid taken (c.line.ensures.log_stays plan placed) holds) c.line.ensures.disk_faults (omega (arith, c.line.ensures.out_faults)))
+    c.in-Ok-settle.ensures.carries))
+
+pub returns-in-Err-tell_line-clause-carries : goal.returns-in-Err-tell_line-clause-carries
+returns-in-Err-tell_line-clause-carries g c =
+    let mid = c.make_way.new.task in
+    let taken = c.line.new.self in
+    let settled = c.settle.new.task in
+    let last = c.stop-in-Err-tell_line.new.task in
+    let done = c.in-Ok-line.ensures in
+    carries_then g.K.Task.view g.K.Task.disk_faults g.K.Task.out_faults (λ f. f) (λ f. f) _ _ c.args.task.now mid last (carries_first g.K.Task.view g.K.Task.disk_faults g.K.Task.out_faults c.args.task.now mid c.make_way.ensures.only)
+    (carries_then g.K.Task.view g.K.Task.disk_faults g.K.Task.out_faults (λ f. f) (λ f. f) _ _ mid taken last
+    (carries_done g.K.Task.view g.K.Task.disk_faults g.K.Task.out_faults {A = ⊤} (λ f. f) tt mid taken done.running done.node done.placed (λ going. done.going) c.line.ensures.goes
+    (λ plan held placed holds. log_held g.K.Task.view plan held (g.K.Task.view.at mid).chunk mid taken (c.line.ensures.log_stays plan placed) holds) c.line.ensures.disk_faults (omega (arith, c.line.ensures.out_faults)))
+    (carries_then g.K.Task.view g.K.Task.disk_faults g.K.Task.out_faults (λ f. f) (λ f. f) _ _ taken settled last c.in-Ok-settle.ensures.carries
+    (carries_stop g.K.Task.view g.K.Task.disk_faults g.K.Task.out_faults c.stop-in-Err-tell_line.result c.in-Err-tell_line.fault settled settled last
+    (carries_memory g.K.Task.view g.K.Task.disk_faults g.K.Task.out_faults {A = ⊤} c.in-Err-tell_line.fault c.in-Err-tell_line.ensures.gathers.fault g.met.K.Task.only_now g.met.K.Task.sinks settled) c.stop-in-Err-tell_line.ensures.only c.stop-in-Err-tell_line.ensures.which)))

@@ -1,4 +1,4 @@
-use Rattle.std.proofs.Common.{List, [], ℕ, inr, sym, ◌∙◌, ap, subst}
+use Rattle.std.proofs.Common.{Err, List, [], ℕ, inr, sym, ◌∙◌, ap, subst, arith}
 use Rattle.rg_host.proofs.Laws.{moments_then}
 use Rattle.rg_event.specs.declared.event.Event.{Event}
 use Rattle.rg_run_spec.specs.Laws.{IsPrefixOf}
@@ -8,6 +8,8 @@ use Rattle.rg_serve_spec.specs.Frames.{lines_in}
 use Rattle.rg_serve_spec.specs.Errands.{course_of, StaysOnErrand}
 use Rattle.rg_serve.specs.Serving.{IsWithin}
 use Rattle.rg_serve.proofs.Within.{step_moments, step_halted, save_within}
+use Rattle.rg_run.proofs.Laws.{files_held, held_then, log_held}
+use Rattle.rg_serve.proofs.Carrying.{carries_done, carries_refused, carries_then, carries_failed, store_others, carries_first}
 use Rattle.rg_serve.proofs.settle.save_all.Goals as goal
 
 pub returns-in-Ok-save-clause-settles : goal.returns-in-Ok-save-clause-settles
@@ -50,3 +52,25 @@ returns-in-Err-save-clause-settles g c =
       events = λ plan runs. tt;
       done = λ plan runs. tt;
     }
+
+pub returns-in-Err-clause-carries : goal.returns-in-Err-clause-carries
+returns-in-Err-clause-carries g c = carries_failed g.K.Task.view g.K.Task.disk_faults g.K.Task.out_faults c.args.task.now c.flush.new.task c.flush.ensures.only c.in-Err.fault c.in-Err.ensures.faults (c.in-Err.ensures.write (ap (λ f. Err f) c.in-Err.ensures.faults))
+
+pub returns-in-Ok-save-clause-carries : goal.returns-in-Ok-save-clause-carries
+returns-in-Ok-save-clause-carries g c =
+    let put = c.flush.new.task in
+    let last = c.save.new.self in
+    let done = c.in-Ok-save.ensures in
+    carries_then g.K.Task.view g.K.Task.disk_faults g.K.Task.out_faults (λ f. f) (λ f. f) _ _ c.args.task.now put last (carries_first g.K.Task.view g.K.Task.disk_faults g.K.Task.out_faults c.args.task.now put c.flush.ensures.only)
+    (carries_done g.K.Task.view g.K.Task.disk_faults g.K.Task.out_faults (λ f. f) _ put last done.running done.node done.placed (λ going. done.going) c.save.ensures.goes
+    (λ plan held placed holds. log_held g.K.Task.view plan held (g.K.Task.view.at put).chunk put last (c.save.ensures.log_stays plan placed) holds) c.save.ensures.disk_faults (omega (arith, c.save.ensures.out_faults)))
+
+pub returns-in-Err-save-clause-carries : goal.returns-in-Err-save-clause-carries
+returns-in-Err-save-clause-carries g c =
+    let put = c.flush.new.task in
+    let last = c.save.new.self in
+    let others = store_others c.in-Err-save.fault c.in-Err-save.ensures.faults in
+    carries_then g.K.Task.view g.K.Task.disk_faults g.K.Task.out_faults (λ f. f) (λ f. f) _ _ c.args.task.now put last (carries_first g.K.Task.view g.K.Task.disk_faults g.K.Task.out_faults c.args.task.now put c.flush.ensures.only)
+    (carries_refused g.K.Task.view g.K.Task.disk_faults g.K.Task.out_faults c.in-Err-save.fault put last c.save.ensures.goes
+    (λ plan held placed holds. log_held g.K.Task.view plan held (g.K.Task.view.at put).chunk put last (c.save.ensures.log_stays plan placed) holds) c.save.ensures.disk_faults (omega (arith, c.save.ensures.out_faults))
+    (λ is. c.save.ensures.disk (c.in-Err-save.is ∙ ap (λ v. Err v) is)) (λ is. c.save.ensures.ended (c.in-Err-save.is ∙ ap (λ v. Err v) is)) (λ plan n runs is. others.0 n is) (λ plan p placed is. others.1 p is) (λ p is. absurd (others.1 p is)))

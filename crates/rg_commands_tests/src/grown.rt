@@ -1,7 +1,9 @@
 use super::changes::Change;
-use super::scenario::{EMPTY, Left, STAYS, Scenario, assert_all};
-use super::setting::{COUNTRIES, Call, DUMP, INFO, LOG, RUN, RUN_THREE, SMALL};
+use super::scenario::{EMPTY, Left, STAYS, Scenario, assert_all, is_left, left_by};
+use super::setting::{COUNTRIES, Call, DUMP, INFO, LOG, RUN, RUN_THREE, Row, SMALL, assert_row};
+use rg_host::{MemHost, Pick};
 use rg_messages::Status;
+use std::process::Abort;
 use std::test::Fail;
 
 /// The columns of payments that have a country and a fee behind it.
@@ -302,4 +304,48 @@ const LEFT_STORES: &[Scenario<'static>] = &[
 #[test]
 fn a_store_that_does_not_grow_is_left(rt: HostRuntime) -> Result<(), Fail> {
     assert_all(&rt, LEFT_STORES)
+}
+
+/// By hand, from place 236 of a log of three payments on: the frame of the growth by the country, with 69 bytes of payload, and
+/// a closed gate.
+const GROWTH: Left<'static> = Left::End(
+    2,
+    236,
+    b"\x01\0\0\0\0\0\0\0\x45G\0\0\0\x3cpayments(ts,card:text,merchant:text,amount:int,country:text)\x03\x02??\0",
+);
+
+/// A run that adds a column, and whose input can't be read: it puts the open line and the last one.
+const OPENED: Scenario<'static> = Scenario {
+    says: "a growth stands in the log from the open line on",
+    runs: &[
+        RUN_THREE,
+        Call {
+            failing_reads: &[0],
+            wanted: "open 3 3 0\nfailed read\n",
+            ends: Status::Read,
+            ..GROWS
+        },
+    ],
+    ..EMPTY
+};
+
+/// What a stop in front of this host's last call leaves, which puts the last line, has the growth, by any pick.
+fn assert_grown(rt: &impl Abort, host: &MemHost) -> Result<(), Fail> {
+    let calls = host.calls().saturating_sub(1);
+    for (number, pick) in [Pick::Old, Pick::New, Pick::Torn(1)].iter().enumerate() {
+        let left = host.stop_image(calls, *pick)?;
+        let stands = is_left(&left, GROWTH);
+        drop(left);
+        let says = OPENED.says;
+        assert_row(rt, Row { says, number }, "it is left", stands)?;
+    }
+    Ok(())
+}
+
+#[test]
+fn a_growth_stands_in_the_log_from_the_open_line_on(rt: HostRuntime) -> Result<(), Fail> {
+    let host = left_by(&rt, &OPENED)?;
+    let done = assert_grown(&rt, &host);
+    drop(host);
+    done
 }

@@ -149,7 +149,8 @@ fn bytes_from(host: &MemHost, file: u32, at: usize) -> Option<&[u8]> {
     }
 }
 
-fn is_left(host: &MemHost, left: Left<'_>) -> bool {
+/// Whether that is left on a host.
+pub(super) fn is_left(host: &MemHost, left: Left<'_>) -> bool {
     match left {
         Left::End(file, at, bytes) => bytes_from(host, file, at) == Some(bytes),
         Left::At(file, at, bytes) => match bytes_from(host, file, at) {

@@ -56,7 +56,13 @@ fn run_on(rt: &HostRuntime, words: &[String]) -> Status {
     tell_missing(rt, words, store);
     let mut plan = FileSource::new(rt, path);
     let mut input = ReaderSource::new(rt.stdin());
-    let mut host = FolderHost::new(rt, rt.alloc(), store, access, Counted::new(rt.stdout()));
+    let mut host = FolderHost::new(
+        rt,
+        rt.alloc(),
+        store,
+        access,
+        Counted::new(rt.stdout(), is_watched),
+    );
     if is_watched {
         host.watch();
     }

@@ -25,6 +25,7 @@ enum Place {
 #[derive(Drop)]
 pub struct Counted<W: Write + Drop> {
     writer: W,
+    is_on: bool,
     place: Place,
     counts: [u64; 10],
 }
@@ -42,10 +43,11 @@ fn kept(kinds: u32, at: usize, byte: u8) -> u32 {
 }
 
 impl<W: Write + Drop> Counted<W> {
-    /// A writer in front of this one. Nothing has been counted.
-    pub fn new(writer: W) -> Counted<W> {
+    /// A writer in front of this one, which counts only where it is on. Nothing has been counted.
+    pub fn new(writer: W, is_on: bool) -> Counted<W> {
         Counted {
             writer,
+            is_on,
             place: Place::Start,
             counts: [0; 10],
         }
@@ -84,8 +86,10 @@ impl<W: Write + Drop> Counted<W> {
 impl<W: Write + Drop> Write for Counted<W> {
     fn write(&mut self, buf: &[u8]) -> io::Result<usize> {
         let count = self.writer.write(buf)?;
-        for byte in buf.iter().take(count) {
-            self.take(*byte);
+        if self.is_on {
+            for byte in buf.iter().take(count) {
+                self.take(*byte);
+            }
         }
         Ok(count)
     }

@@ -32,6 +32,7 @@ PARTS = [
     ("checkpoints: their bytes, and when they are true", "rg_checkpoint rg_restore rg_state rg_agg rg_plan rg_group rg_window rg_engine rg_query/Printing"),
     ("what the bytes of a plan say", "rg_config rg_query rg_parse rg_grammar rg_token rg_keywords"),
 ]
+HOUR = 3  # the first parts, those of the path of an hour, name their files
 
 Part = collections.namedtuple("Part", "crate file line name text lines comments")
 
@@ -252,7 +253,7 @@ def table(found):
         for where in (part_of(it.crate, it.file), "all"):
             sums[where].update(definitions=1, lines=it.lines, comments=it.comments)
             sums[where, "files"][it.file] += it.lines
-    rows = [f"| {what} | {sums[at]['lines']} | {sums[at]['definitions']} | {names_of(sums[at, 'files'])} |" for at, (what, _) in enumerate(PARTS)]
+    rows = [f"| {what} | {sums[at]['lines']} | {sums[at]['definitions']} | {names_of(sums[at, 'files'], at < HOUR)} |" for at, (what, _) in enumerate(PARTS)]
     every, crates = sums["all"], {it.crate for it in found}
     last = f"| All | {every['lines']}, of these {every['comments']} of comments | {every['definitions']} | {len(sums['all', 'files'])} files of {len(crates)} crates |"
     return [*rows, last]
@@ -268,13 +269,15 @@ def show(closure, found, rows, listed):
         list_all(closure, found)
 
 
-def names_of(files):
-    """The names of some files by their crates, those with the most lines first."""
+def names_of(files, listed):
+    """The crates of some files, those with the most lines first; listed, each with its files' names."""
     crates = collections.defaultdict(list)
     for file, lines in files.most_common():
         crates[file.split("/")[1]].append((lines, os.path.basename(file)[:-5]))
     order = sorted(crates, key=lambda it: -sum(lines for lines, _ in crates[it]))
-    return "; ".join(f"`{it}`: " + ", ".join(name for _, name in crates[it]) for it in order)
+    if listed:
+        return "; ".join(f"`{it}`: " + ", ".join(name for _, name in crates[it]) for it in order)
+    return ", ".join(f"`{it}`" for it in order)
 
 
 def list_all(closure, found):

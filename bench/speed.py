@@ -157,14 +157,15 @@ class Figures:
     def windows(self):
         """For each row of the windows what each run gave: seconds, the reference's, ratio, lines a second, memory."""
         found = {}
-        for file in sorted(glob.glob(f"{self.folder}/windows-*")):
+        for file in sorted(glob.glob(f"{self.folder}/windows-*[0-9]")):
             for name, *cells in self.rows(os.path.basename(file)):
                 found.setdefault(name, []).append(cells)
         return found
 
 
 def table(head, rows):
-    return "\n".join("| " + " | ".join(map(str, it)) + " |" for it in [head, ["---"] * len(head), *rows]) + "\n"
+    lines = ["| " + " | ".join(map(str, it)) + " |" for it in [head, *rows]]
+    return "\n".join([lines[0], "|---" * len(head) + "|", *lines[1:]]) + "\n"
 
 
 def middle(cells):
@@ -183,18 +184,23 @@ def per_line(figures):
 def say_windows(figures, told):
     rows = []
     for name, runs in figures.windows().items():
-        own, other, ratio, rate = (middle([it[at] for it in runs]) for at in range(4))
+        own, other, ratio = (middle([it[at] for it in runs]) for at in range(3))
         ratios = sorted(float(it[2]) for it in runs)
-        aim = AIMS[name.split(", ")[0]]
-        rows.append([name, f"{own:.2f}", f"{other:.2f}", f"{ratio:.2f} ({ratios[0]:.2f}, {ratios[-1]:.2f}), aim {aim}", f"{rate / 1e6:.1f} million",
+        rows.append([name, f"{own:.2f}", f"{other:.2f}", f"{ratio:.2f} ({ratios[0]:.2f}, {ratios[-1]:.2f})",
                      told.get(name.replace(", ", " cards, "), ""), f"{middle([it[4] for it in runs]):.0f} MB"])
-    return table(["Cards, window", "Seconds", "Reference", "Ratio (least, greatest)", "Lines a second", "Instructions a line", "Peak memory"], rows)
+    return table(["Cards, window", "Seconds", "Reference", "Ratio", "Instructions a line", "Peak memory"], rows)
 
 
 def say_waits(figures):
     rows = figures.rows("latency")
     last = float(rows[-1][3]) if rows else 0
-    return table(["", "p50", "p99", "p99.9", "Longest", "p99.9 of the reference's"], [[*it, f"{float(it[3]) / last:.1f}" if last else ""] for it in rows])
+    return table(["", "p50", "p99", "p99.9", "Longest", "p99.9 to the reference's"], [[it[0].removeprefix("railgun, "), *it[1:], f"{float(it[3]) / last:.1f}" if last else ""] for it in rows])
+
+
+def say_rate(figures):
+    """At which rate lines come to measure how long they wait."""
+    found = re.search(r"At (\d+) lines a second, (\d+) of them", figures.text("latency"))
+    return f"{int(found[2]):,} lines come, {int(found[1]):,} a second," if found else "Lines come"
 
 
 def say_pauses(figures):
@@ -205,11 +211,13 @@ def say_pauses(figures):
 
 
 def say_memory(figures):
+    """Megabytes over keys, and what a key and a payment more take."""
     rows = figures.words("memory")
-    said = [[f"{int(keys):,} keys", *[f"{int(it) * 1024 / 1e6:,.0f} MB" for it in cells], f"{int(cells[2]) / int(cells[0]):.1f}"] for keys, *cells in rows]
-    text = table(["", "Two aggregators", "Eight", "Reference (two)", "Reference to two"], said) if said else ""
+    said = [[f"{int(keys):,} keys", *[f"{int(it) * 1024 / 1e6:,.0f} MB" for it in cells]] for keys, *cells in rows]
+    text = table(["", "Two aggregators", "Eight", "Reference, two"], said) if said else ""
     found = re.findall(r"^(\w+) aggregators: .*: (-?\d+) bytes a key; the slot .*: (\d+) bytes a key; the log (\d+) bytes a payment", figures.text("keys"), re.M)
-    return text + "".join(f"\nA key more with {name} aggregators takes {key} bytes of memory and {slot} in a slot. Its payment takes {log} in the log." for name, key, slot, log in found) + "\n"
+    more = [[f"{name} aggregators", f"{int(key):,}", slot, log] for name, key, slot, log in found]
+    return "\n".join([text] * bool(text) + [table(["Bytes of a key more", "Memory", "In a slot", "Its payment in the log"], more)] * bool(more))
 
 
 def say_gate(figures):
@@ -223,25 +231,66 @@ def say_gate(figures):
     return table(["", "Minutes", "Processor seconds", "Most memory of one check"], rows) if rows else ""
 
 
+def say_machine(figures):
+    """What the figures are of: commit, machine, program, and how busy the machine was."""
+    loads = [float(it[0]) for it in figures.words("loads")]
+    busy = f" The machine's load before each measurement was {min(loads):.0f} to {max(loads):.0f}; alone, this work makes it 1." if loads else ""
+    return f"{' '.join(figures.text('machine').split())}{busy} `bench/speed.sh` wrote this page."
+
+
+def grouped(rows):
+    """The rows with a comma in each number of five digits or more."""
+    return [[re.sub(r"\b\d{5,}\b", lambda it: f"{int(it[0]):,}", cell) for cell in row] for row in rows]
+
+
+def say_store(figures):
+    rows = [[it[0].split(":")[0], *it[1:]] for it in grouped(figures.rows("store")) if not it[0].startswith("a checkpoint")]
+    return table(["", "Processor", "Passed", ""], rows) if rows else ""
+
+
+def say_replay(figures):
+    """Each replay beside its run, each verify beside its dump."""
+    rows, seconds = [], lambda it: float(it.split()[0])
+    runs = {name.removesuffix(", run"): took for name, took, *_ in figures.rows("replay") if name.endswith(", run")}
+    for name, took, rate, peak in figures.rows("replay"):
+        if name.endswith(", replay"):
+            ratio = seconds(runs[name.removesuffix(", replay")]) / seconds(took)
+            rows.append([f"replay, {name.removesuffix(', replay')}", took, f"{ratio:.2f} times its run's speed, {rate} lines a second", peak])
+    for name, took, times, peak in figures.rows("verify"):
+        if name.endswith(", verify"):
+            rows.append([f"verify, {name.removesuffix(', verify')}", took, f"{times} of a dump's time", peak])
+    return table(["", "Processor", "", "Peak memory"], grouped(rows)) if rows else ""
+
+
+def say_ranks(figures):
+    rows = [[f"{int(cards):,}", *cells[:3], f"{cells[3]}, {cells[4]}", cells[5]] for cards, *cells in figures.rows("ranks")]
+    return table(["Cards", "Program", "Bisection", "SortedList", "Ratios", "Microseconds a line"], rows) if rows else ""
+
+
 def write_page(figures, page, pictures):
     drawn = draw(figures, pictures)
     picture = lambda name, says: f"\n![{says}](pictures/{name}.svg)\n" if name in drawn else ""
     parts = [
-        f"# Speed and memory\n\n{figures.text('machine').strip()} `bench/speed.sh` measured all figures and wrote this page. No clause speaks of time or of how much memory a run takes.\n",
-        "## Windows\n\nA million payments, five seconds apart, with a count and a sum by card, each run over a new store on a disk. The reference is `bench/reference.py`, a program in Python "
-        "that keeps all payments in memory and stores none. Seconds are of the processor, user and system; each figure is the middle one of the runs. Instructions are counted by "
-        "`bench/counts.py`, and don't depend on the machine.\n\n" + say_windows(figures, per_line(figures)) + picture("ratios", "The ratio to the reference in each run, with the aims as lines")
-        + picture("instructions", "The instructions of a line by what they do, a bar for each workload"),
-        "## A payment's wait\n\n100,000 cards and 30 days, payments at a fixed rate whether or not answers come. Milliseconds from when a line is due to its answer. A checkpoint holds up the lines behind it.\n\n"
-        + say_waits(figures) + picture("waits", "The longest wait in each tenth of a second, and the percentiles beside"),
-        "## Checkpoints and restarts\n\nA count and a sum by card, no window's end. A pause is from a line that asks for a checkpoint, or for which it is due, to `saved`, once all payments before it are stored. A restart is from the program's start to its `open` line.\n\n" + say_pauses(figures),
-        "## Memory\n\nThe peak of a run in which each payment has a card of its own, and a checkpoint is saved at the end.\n\n" + say_memory(figures) + picture("memory", "Peak memory over keys"),
-        "## The disk\n\n" + table(["", "Processor", "Passed", ""], [[re.sub(r"\b\d{5,}\b", lambda it: f"{int(it[0]):,}", cell) for cell in row] for row in figures.rows("store")]),
-        "## A replay and a verify\n\n" + table(["", "Processor", "Lines a second", "Peak memory"], figures.rows("replay")) + "\n" + table(["", "Processor", "of a dump's", "Peak memory"], figures.rows("verify")),
-        "## The gate\n\n" + say_gate(figures) + picture("build", "When each crate's proof began and ended in the first build, the chain that it waits for in red"),
+        ("Windows", "A million payments come five seconds apart, with a count and a sum by card. Each run begins with a new store on a disk. The reference is `bench/reference.py`, a program in Python "
+         "that keeps all payments in memory and stores none. Seconds are of the processor, user and system. Each figure is the middle one of "
+         f"{len(glob.glob(f'{figures.folder}/windows-*[0-9]'))} runs; of the ratio the least and the greatest follow. Its aims are {AIMS['40']} with 40 cards and {AIMS['100,000']} with 100,000. "
+         "Instructions are counted by `bench/counts.py`, and don't depend on the machine.",
+         say_windows(figures, per_line(figures)) if figures.windows() else "",
+         picture("ratios", "The ratio to the reference in each run, with the aims as lines") + picture("instructions", "The instructions of a line by what they do, a bar for each workload")),
+        ("A median", "A median over an hour by card: 900 amounts a card at 40 cards, 100,000 at one. Two programs in Python keep a card's amounts in order, in a list by bisection and in a SortedList. "
+         "The ratios are of their seconds to the program's.", say_ranks(figures), ""),
+        ("A payment's wait", f"100,000 cards and 30 days. {say_rate(figures)} whether or not answers do. A wait is from when a line is due to its answer, in milliseconds. A checkpoint holds up the lines behind it, and so does other work on the machine.",
+         say_waits(figures) if figures.rows("latency") else "", picture("waits", "The longest wait in each tenth of a second, and the percentiles beside")),
+        ("Checkpoints and restarts", "A count and a sum by card, over all time. A pause is from the line that brings a checkpoint to its `saved`. A restart is from the program's start to its `open` line. "
+         "Without a checkpoint all payments are answered again: here one a key, so that a checkpoint saves little.", say_pauses(figures) if figures.words("pauses-100000") else "", ""),
+        ("Memory", "The peak of a run in which each payment has a card of its own, with a checkpoint at the end.", say_memory(figures), picture("memory", "Peak memory over keys")),
+        ("The disk", "A count and a sum by card over 30 days.", say_store(figures), ""),
+        ("A replay and a verify", "300,000 payments over an hour are answered again. A million of 100,000 cards are verified and dumped.", say_replay(figures), ""),
+        ("The gate", "What it takes to prove and test everything.", say_gate(figures), picture("build", "When each crate's proof began and ended in the first build, the chain that it waits for in red")),
     ]
     with open(page, "w", encoding="utf-8") as it:
-        it.write("\n".join(part.rstrip() + "\n" for part in parts))
+        it.write(f"# Speed and memory\n\n{say_machine(figures)}\n")
+        it.writelines(f"\n## {title}\n\n{says}\n\n{(body + pictured).strip()}\n" for title, says, body, pictured in parts if body)
 
 
 def draw(figures, folder):

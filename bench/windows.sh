@@ -1,12 +1,13 @@
 #!/usr/bin/env bash
 # What a line costs by the number of cards and the length of the window: a million payments, five seconds apart, a count and a sum by card.
-# Processor time (user and system), lines a second of it and peak memory, beside the time of bench/reference.py on the same lines, run in turn: the medians of three.
+# Processor time (user and system), lines a second of it and peak memory, beside the time of bench/reference.py on the same lines, run in turn: the medians of three, or of the odd number that a second word says.
 # It prints the table that docs/SPEED.md has.
 # Each run of the program begins with a new store, on the disk of the temporary folder; what it says of its store is left out of the comparison.
 # It fails where a line isn't accepted, or where the two programs answer differently. Outside the gate.
 # `rt run` in crates/railgun builds the program first; PROGRAM names another one.
 . "$(dirname "$0")/common.sh"
 lines=${1:-1000000}
+times=${2:-3}
 
 # Runs a command on the payments, and adds its figures to the file of this name. Each line must be accepted.
 measure() {
@@ -26,7 +27,7 @@ for cards in 40 100000; do
     while read -r milliseconds window; do
         plan "$window" > "$work/plan"
         rm -f "$work/railgun" "$work/reference"
-        for _ in 1 2 3; do
+        for _ in $(seq "$times"); do
             rm -rf "$work/store"
             measure railgun "$program" run "$work/plan" "$work/store"
             measure reference python3 "$bench/reference.py" "$milliseconds"

@@ -36,6 +36,10 @@ BY_HAND = (
         [("1764547200,c,1,true", "1764547200000,c,10,true"), ("1764547200.1239,,,true", "1764547200123,none,75,true"), ("1e9,c,1,true", "?1e9,c,10,true")],
     ),
     (
+        'short = true\n[columns.amount]\ndefault = "7"\n[columns.online]\ndefault = "true"',
+        [("1,c,5", "1,c,5,true"), ("1,c", "1,c,7,true"), ("1", "?fields"), ("1,c,5,false", "1,c,5,false"), ("1,c,5,true,", "?fields")],
+    ),
+    (
         '[columns.ts]\ntime = "iso"',
         [("2025-12-01T00:00:00Z,c,1,true", "1764547200000,c,1,true"), ("2025-12-01T02:00:00.0019+02:00,c,1,true", "1764547200001,c,1,true")]
         + [("2025-12-01 00:00:00,c,1,true", "1764547200000,c,1,true"), ("2025-13-01T00:00:00Z,c,1,true", "?2025-13-01T00:00:00Z,c,1,true")]

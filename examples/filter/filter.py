@@ -13,6 +13,7 @@ RULES is a TOML file; each key may be left out:
                                      order of what follows. FILE remembers headers, for a start behind them. A header is put
                                      as an empty line, at line 0 of a plan with `header = true` as well (answered `head`)
     strip = true                     spaces and tabs at both ends of a field go
+    short = true                     a row may lack its last fields, those of columns that have a default
     control = true                   the lines !commit, !save and !ahead go through as they are
     ahead = 3600000                  a time that is so many milliseconds ahead of the clock, or more, is refused
     [columns.amount]                 one of these for each column of the plan that wants it, the time's among them
@@ -36,7 +37,7 @@ import time
 import tomllib
 
 LONGEST = 65535
-KEYS = {"names", "headers", "strip", "ahead", "control", "columns"}
+KEYS = {"names", "headers", "strip", "ahead", "short", "control", "columns"}
 CONTROL = (b"!commit", b"!save", b"!ahead")
 COLUMN_KEYS = {"from", "default", "scale", "time"}
 
@@ -121,7 +122,7 @@ class Rules:
             if "scale" in rule and self.kinds[self.columns.index(name)] != "int":
                 raise Wrong(f"columns.{name}: scale is for an int")
         self.wanted = [self.of.get(it, {}).get("from", it) for it in self.columns]
-        self.strip, self.control = rules.get("strip", False), rules.get("control", False)
+        self.strip, self.control, self.short = (rules.get(it, False) for it in ("strip", "control", "short"))
         self.ahead, self.headers = rules.get("ahead"), rules.get("headers")
         self.names = rules.get("names", None if self.headers else self.wanted)
         self.refused = collections.Counter()
@@ -160,10 +161,17 @@ class Rules:
             return self.header(fields, offset)
         if fields is None or self.places is None:
             return self.refuse("row", b"")
+        if self.short and self.may_lack(self.names[len(fields) :]):
+            fields += [""] * (len(self.names) - len(fields))
         if len(fields) != len(self.names):
             return self.refuse("fields", b"?fields")
         values = [self.value(at, fields[place]) for at, place in enumerate(self.places)]
         return ",".join(map(quoted, values)).encode("utf-8", "surrogateescape")
+
+    def may_lack(self, names):
+        """Whether a default stands for each of these fields."""
+        defaulted = {wanted for column, wanted in zip(self.columns, self.wanted) if "default" in self.of.get(column, {})}
+        return set(names) <= defaulted
 
     def refuse(self, why, put):
         self.refused[why] += 1
